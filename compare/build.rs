@@ -1,0 +1,139 @@
+//! Makes the copy of the original that is compared, by exact replacements, and links the static
+//! library.
+//!
+//! The copy goes to cargo's output folder and is never committed. Its arithmetic is the original's:
+//! the replacements open private items and make the text fit to be included. Where the original is
+//! not as expected, the build stops and says what did not fit.
+
+use std::path::{Path, PathBuf};
+use std::{env, fs};
+
+struct Replacement {
+    purpose: &'static str,
+    old: &'static str,
+    new: &'static str,
+    times: usize,
+}
+
+/// All that the copy of nb.rs differs in, in the order of the text.
+const REPLACEMENTS: &[Replacement] = &[
+    Replacement {
+        purpose: "inner doc lines as plain comments, since include! takes none",
+        old: "//!",
+        new: "//",
+        times: 10,
+    },
+    Replacement {
+        purpose: "open the field's tables",
+        old: "struct Gf {",
+        new: "pub struct Gf {",
+        times: 1,
+    },
+    Replacement {
+        purpose: "open the product",
+        old: "    fn mul(&self, a: u8, b: u8) -> u8 {",
+        new: "    pub fn mul(&self, a: u8, b: u8) -> u8 {",
+        times: 1,
+    },
+    Replacement {
+        purpose: "open the inverse",
+        old: "    fn inv(&self, a: u8) -> u8 {",
+        new: "    pub fn inv(&self, a: u8) -> u8 {",
+        times: 1,
+    },
+    Replacement {
+        purpose: "open the field",
+        old: "static GF: Gf = Gf::new();",
+        new: "pub static GF: Gf = Gf::new();",
+        times: 1,
+    },
+    Replacement {
+        purpose: "open the generator",
+        old: "fn mix(s: &mut u64) -> u64 {",
+        new: "pub fn mix(s: &mut u64) -> u64 {",
+        times: 1,
+    },
+];
+
+/// The first lines of the enum that is cut out of fec.rs, and what ends it.
+const RATE_HEAD: &str = "#[derive(Clone, Copy, Debug, PartialEq, Eq, Hash)]\npub enum Rate {\n";
+const RATE_END: &str = "\n}\n";
+
+fn main() {
+    println!("cargo:rerun-if-changed=build.rs");
+    let here = PathBuf::from(given("CARGO_MANIFEST_DIR"));
+    let root = here.parent().expect("compare/ stands in the project");
+    let out = PathBuf::from(given("OUT_DIR"));
+
+    let source = folder("HAZGUNEK_SOURCE", root.join("../shared/docs/src"));
+    let nb = text(&source.join("crates/ion/src/fec/nb.rs"));
+    let fec = text(&source.join("crates/ion/src/fec.rs"));
+    write(&out.join("nb.rs"), &REPLACEMENTS.iter().fold(nb, replaced));
+    write(&out.join("rate.rs"), cut(&fec, RATE_HEAD, RATE_END));
+
+    link(&folder(
+        "HAZGUNEK_ARCHIVE_DIR",
+        root.join("target/staticlib"),
+    ));
+}
+
+/// A variable that cargo sets.
+fn given(name: &str) -> String {
+    env::var(name).unwrap_or_else(|e| panic!("{name}: {e}"))
+}
+
+/// The folder that an environment variable names, or the one that stands in where it is not set.
+fn folder(name: &str, otherwise: PathBuf) -> PathBuf {
+    println!("cargo:rerun-if-env-changed={name}");
+    env::var_os(name)
+        .filter(|value| !value.is_empty())
+        .map_or(otherwise, PathBuf::from)
+}
+
+fn text(path: &Path) -> String {
+    println!("cargo:rerun-if-changed={}", path.display());
+    fs::read_to_string(path).unwrap_or_else(|e| panic!("{}: {e}", path.display()))
+}
+
+fn write(path: &Path, text: &str) {
+    fs::write(path, text).unwrap_or_else(|e| panic!("{}: {e}", path.display()));
+}
+
+/// The text after one replacement, which must fit as many times as it says.
+fn replaced(text: String, r: &Replacement) -> String {
+    let found = text.matches(r.old).count();
+    assert!(
+        found == r.times,
+        "nb.rs: the replacement '{}' does not fit: {:?} must occur {} times and occurs {found} times",
+        r.purpose,
+        r.old,
+        r.times,
+    );
+    text.replace(r.old, r.new)
+}
+
+/// The piece of fec.rs from `head`, which must occur once, to the first `end` after it, both kept.
+fn cut<'a>(text: &'a str, head: &str, end: &str) -> &'a str {
+    let found = text.matches(head).count();
+    assert!(
+        found == 1,
+        "fec.rs: {head:?} must occur once and occurs {found} times"
+    );
+    let from = &text[text.find(head).unwrap()..];
+    let length = from
+        .find(end)
+        .unwrap_or_else(|| panic!("fec.rs: no {end:?} after {head:?}"));
+    &from[..length + end.len()]
+}
+
+fn link(archive_dir: &Path) {
+    let archive = archive_dir.join("libabi.a");
+    println!("cargo:rerun-if-changed={}", archive.display());
+    assert!(
+        archive.is_file(),
+        "no {}: `rt staticlib abi` in the project's root makes it, and compare/run calls that",
+        archive.display(),
+    );
+    println!("cargo:rustc-link-search=native={}", archive_dir.display());
+    println!("cargo:rustc-link-lib=static=abi");
+}

@@ -1,0 +1,51 @@
+//! Compares the original Rust with the static library, and prints the fixed lists of the original's
+//! answers. `compare/run` builds and starts it.
+
+mod abi;
+mod field;
+mod list;
+mod listed;
+mod oracle;
+mod random;
+mod report;
+mod speed;
+
+use std::process::ExitCode;
+
+fn main() -> ExitCode {
+    let words: Vec<String> = std::env::args().skip(1).collect();
+    match words.iter().map(String::as_str).collect::<Vec<_>>()[..] {
+        [] => compare(),
+        ["list", layer] => print_list(layer),
+        _ => {
+            eprintln!("usage: compare/run [list LAYER]");
+            ExitCode::from(2)
+        }
+    }
+}
+
+fn print_list(layer: &str) -> ExitCode {
+    match list::text(layer) {
+        Some(text) => {
+            print!("{text}");
+            ExitCode::SUCCESS
+        }
+        None => {
+            eprintln!("compare/run: no list of {layer}");
+            ExitCode::from(2)
+        }
+    }
+}
+
+/// All comparisons, lowest layer first, and then the speeds.
+fn compare() -> ExitCode {
+    let differences = field::compare() + listed::compare() + list::compare();
+    field::measure();
+    if differences == 0 {
+        println!("no differences");
+        ExitCode::SUCCESS
+    } else {
+        println!("DIFFERENCES: {differences}");
+        ExitCode::FAILURE
+    }
+}

@@ -1,0 +1,4 @@
+pub mod OneNumber
+pub mod Mul
+pub mod Inv
+pub mod Draws

@@ -1,0 +1,3 @@
+pub mod Field
+pub mod SplitMix64
+pub mod DegreeRows

@@ -1,0 +1,11 @@
+pub mod Cases
+pub mod Computed
+pub mod Iter
+pub mod While
+pub mod Choice
+pub mod Any
+pub mod Fold
+pub mod Values
+pub mod Each
+pub mod Keep
+pub mod EachOnce

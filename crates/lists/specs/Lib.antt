@@ -1,0 +1,9 @@
+pub mod Iter
+pub mod While
+pub mod Choice
+pub mod Any
+pub mod Entry
+pub mod Values
+pub mod Each
+pub mod Keep
+pub mod EachOnce
