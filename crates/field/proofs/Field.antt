@@ -6,7 +6,7 @@ use Prim.Native.Nat.{ℕ, _<_}
 use lib.Bits.{bitXor, xor-comm, xor-zero-r, xor-self}
 use Rattle.field.specs.Field.{mul, inv}
 use Rattle.field.proofs.Sum.{xor-assoc, xor32}
-use Rattle.field.proofs.Product.{mul-lt, mul-comm, mul-assoc, mul-xor, one-mul, inv-mul, no-zero-divisors}
+use Rattle.field.proofs.Product.{mul-lt, mul-comm, mul-assoc, mul-xor, one-mul, inv-lt, inv-mul, no-zero-divisors}
 
 -- a field whose elements are the numbers below q, in which each element is its own negative
 pub record Field (q : ℕ) (sum product : ℕ → ℕ → ℕ) (inverse : ℕ → ℕ) : Type 0 where
@@ -20,6 +20,7 @@ pub record Field (q : ℕ) (sum product : ℕ → ℕ → ℕ) (inverse : ℕ �
   pub product-comm : (a b : ℕ) → product a b ≡ product b a
   pub product-one : (a : ℕ) → a < q → product 1 a ≡ a
   pub distributive : (a b c : ℕ) → product a (sum b c) ≡ sum (product a b) (product a c)
+  pub inverse-inside : (a : ℕ) → inverse a < q
   pub inverses : (a : ℕ) → a < q → a ≢ 0 → product (inverse a) a ≡ 1
   pub divisors : (a b : ℕ) → a < q → b < q → product a b ≡ 0 → (a ≡ 0) ⊎ (b ≡ 0)
 
@@ -35,6 +36,7 @@ gf32 = record {
   product-comm = mul-comm;
   product-one = one-mul;
   distributive = mul-xor;
+  inverse-inside = inv-lt;
   inverses = inv-mul;
   divisors = no-zero-divisors;
 }

@@ -21,15 +21,15 @@ by-horner a b = defined (a % 32) (b % 32) (mod32 a) (mod32 b)
 pub mul-lt : (a b : ℕ) → mul a b < 32
 mul-lt a b = rw by-horner (horner-lt (a % 32) (b % 32) (mod32 b))
 
--- the five lowest digits of a factor count
-pub mul-mod : (a b : ℕ) → mul (a % 32) (b % 32) ≡ mul a b
-mul-mod a b = by-horner (a % 32) (b % 32) ∙ ap₂ horner (mod-eq-of-lt (mod32 a)) (mod-eq-of-lt (mod32 b)) ∙ sym (by-horner a b)
+pub mul-comm : (a b : ℕ) → mul a b ≡ mul b a
+mul-comm a b = by-horner a b ∙ horner-comm (a % 32) (b % 32) (mod32 a) (mod32 b) ∙ sym (by-horner b a)
 
+-- the five lowest digits of a factor count
 pub mul-mod-left : (a b : ℕ) → mul (a % 32) b ≡ mul a b
 mul-mod-left a b = by-horner (a % 32) b ∙ ap (λ (x : ℕ). horner x (b % 32)) (mod-eq-of-lt (mod32 a)) ∙ sym (by-horner a b)
 
-pub mul-comm : (a b : ℕ) → mul a b ≡ mul b a
-mul-comm a b = by-horner a b ∙ horner-comm (a % 32) (b % 32) (mod32 a) (mod32 b) ∙ sym (by-horner b a)
+pub mul-mod : (a b : ℕ) → mul (a % 32) (b % 32) ≡ mul a b
+mul-mod a b = mul-mod-left a (b % 32) ∙ mul-comm a (b % 32) ∙ mul-mod-left b a ∙ mul-comm b a
 
 pub mul-xor : (a b c : ℕ) → mul a (bitXor b c) ≡ bitXor (mul a b) (mul a c)
 mul-xor a b c =

@@ -1,0 +1,69 @@
+// Holds our answers to the list's, and prints the first that differs.
+ghost use mathlib.Core.Path.{_≡_};
+ghost use Prim.Native.Nat.{_≤_};
+ghost use lib.ListN.{length};
+use crate::calls;
+use crate::calls::Call;
+use crate::calls::Outcome;
+use crate::print;
+
+pub fn held(
+    name: &[u8],
+    line: u64,
+    call: Call,
+    arguments: &[u64],
+    ours: u64,
+    listed: u64,
+) -> Outcome {
+    if ours == listed {
+        return Outcome::Same;
+    }
+    print_case(name, line, call, arguments);
+    print::answers(ours, listed);
+    Outcome::Differs
+}
+
+// As many answers as the list has; `each` says what one of them is.
+pub fn held_all(
+    name: &[u8],
+    line: u64,
+    call: Call,
+    arguments: &[u64],
+    each: &[u8],
+    ours: &[u64],
+    listed: &[u64],
+) -> Outcome
+    requires { ⌜ length (now ours) ≡ length (now listed) ⌝ }
+{
+    let k = first_difference(ours, listed);
+    if k == ours.len() {
+        return Outcome::Same;
+    }
+    print_case(name, line, call, arguments);
+    print::text(each);
+    print::number(k as u64 + 1);
+    print::answers(ours[k], listed[k]);
+    Outcome::Differs
+}
+
+fn print_case(name: &[u8], line: u64, call: Call, arguments: &[u64]) {
+    print::place(name, line);
+    print::text(b": ");
+    calls::print_name(call);
+    print::numbers(arguments);
+}
+
+// The length where there is none.
+fn first_difference(a: &[u64], b: &[u64]) -> usize
+    requires { ⌜ length (now a) ≡ length (now b) ⌝ }
+    ensures { λ r. ⌜ r ≤ length (now (a .entry)) ⌝ }
+{
+    let mut i = 0;
+    while i < a.len() {
+        if a[i] != b[i] {
+            return i;
+        }
+        i += 1;
+    }
+    i
+}

@@ -1,0 +1,13 @@
+// Replays fixed lists of answers against the library, and prints what differs and where. The lists stand in data/, and what a good run prints in stdout.
+mod answers;
+mod calls;
+mod field_calls;
+mod list;
+mod print;
+mod run;
+mod tally;
+
+fn main() {
+    run::replay(b"splitmix64.txt");
+    run::replay(b"field.txt");
+}
