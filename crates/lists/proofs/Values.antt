@@ -1,4 +1,4 @@
--- Laws of the list of given values: its entries, its length, one value more, and a part that a loop fills with them from the front.
+-- Laws of the list of given values: its entries, its length, and a part that a loop fills with them from the front.
 -- Assumes nothing.
 use Prim.Native.Nat.{ℕ, zero, suc, _+_, _<_, _≤_}
 use mathlib.Core.Path.{_≡_, refl, ap, sym, _∙_}
@@ -6,7 +6,7 @@ use mathlib.Core.List.{List, [], _∷_, _++_, append-nil, append-assoc}
 use native.Mathlib.Nat.{add-zero, zero-add, add-suc, suc-add, le-of-suc-le-suc, not-suc-le-zero}
 use native.Mathlib.Numerals.{add-one}
 use native.Mathlib.Omega.{arith}
-use lib.ListN.{length, getD, set, drop}
+use lib.ListN.{length, getD, set, drop, replicate}
 use lib.Seq.{drop-length, drop-cons, set-at, ext-getD}
 use Rattle.lists.specs.Values.{values, valuesFrom}
 
@@ -54,3 +54,12 @@ pub values-ext {ℓ} : {A : Type ℓ} (n : ℕ) (f g : ℕ → A) (d : A) → ((
 values-ext n f g d e =
     ext-getD d (values n f) (values n g) (values-length f n ∙ sym (values-length g n))
     (λ k h. let l : k < n = (omega (arith, values-length f n)) in values-at f n k d l ∙ e k l ∙ sym (values-at g n k d l))
+
+-- one value everywhere, as a cleared part has
+from-replicate {ℓ} : {A : Type ℓ} (i n : ℕ) (v : A) → valuesFrom i n (λ _. v) ≡ replicate n v
+from-replicate i zero v = refl
+from-replicate i (suc n) v = ap (λ l. v ∷ l) (from-replicate (suc i) n v)
+
+pub values-replicate {ℓ} : {A : Type ℓ} (n : ℕ) (v : A) → values n (λ _. v) ≡ replicate n v
+unfolding values
+values-replicate n v = from-replicate 0 n v

@@ -24,13 +24,13 @@ pub enum Outcome {
 }
 
 pub fn call_named(word: &[u8]) -> Named {
-    if same(word, b"mul") {
+    if check::same(word, b"mul") {
         return Named::Is(Call::Mul);
     }
-    if same(word, b"inv") {
+    if check::same(word, b"inv") {
         return Named::Is(Call::Inv);
     }
-    if same(word, b"draws") {
+    if check::same(word, b"draws") {
         return Named::Is(Call::Draws);
     }
     Named::Unknown
@@ -53,18 +53,4 @@ pub fn index(call: Call) -> usize
         Call::Inv => 1,
         Call::Draws => 2,
     }
-}
-
-fn same(a: &[u8], b: &[u8]) -> bool {
-    if a.len() != b.len() {
-        return false;
-    }
-    let mut i = 0;
-    while i < a.len() {
-        if a[i] != b[i] {
-            return false;
-        }
-        i += 1;
-    }
-    true
 }
