@@ -4,11 +4,11 @@ use Prim.Native.Nat.{ℕ}
 use mathlib.Core.Bool.{Bool, _||_}
 use mathlib.Core.List.{List, [], _∷_}
 use lib.Dec.{ltb}
-use Rattle.field.specs.Field.{mul}
+use Rattle.field.specs.Field.{product}
 use Rattle.abi.specs.OneNumber.{OneNumber, oneNumber}
 
 abbrev pub refusals : ℕ → ℕ → List (Bool × ℕ)
 refusals a b = (ltb 31 a || ltb 31 b, 8) ∷ []
 
 unfoldable pub multiplied : ℕ → ℕ → ℕ → OneNumber
-multiplied a b product = oneNumber (refusals a b) product (mul a b)
+multiplied a b given = oneNumber (refusals a b) given (product a b)

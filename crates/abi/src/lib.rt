@@ -4,7 +4,7 @@ ghost use mathlib.Core.Path.{_≡_};
 ghost use Rattle.abi.specs.OneNumber.{OneNumber};
 ghost use Rattle.abi.specs.Mul.{multiplied};
 ghost use Rattle.abi.specs.Inv.{inverted};
-ghost use Rattle.abi.specs.Draws.{Draws, ran};
+ghost use Rattle.abi.specs.Draws.{Draws, advanced};
 use field::gf;
 use field::splitmix64;
 use field::splitmix64::SplitMix64;
@@ -33,7 +33,7 @@ pub extern "C" fn hazgunek_inv(a: u8, inverse: &mut u8) -> u8
 
 #[no_mangle]
 pub extern "C" fn hazgunek_draws(state: &mut u64, draws: &mut [u64]) -> u8
-    ensures { λ r. ⌜ _≡_ {A = Draws} (record { number = r; state = now (state .exit); draws = now (draws .exit) }) (ran (now (state .entry)) (now (draws .entry))) ⌝ }
+    ensures { λ r. ⌜ _≡_ {A = Draws} (record { number = r; state = now (state .exit); draws = now (draws .exit) }) (advanced (now (state .entry)) (now (draws .entry))) ⌝ }
 {
     let after = splitmix64::draws(SplitMix64 { state: *state }, draws);
     *state = after.state;

@@ -1,31 +1,36 @@
--- What each range of numbers makes of an answer and of each kind of lent part.
+-- What each class of numbers makes of an answer and of each kind of lent part.
 -- Assumes nothing.
-use Prim.Native.Nat.{ℕ, _+_, _-_, _≤_, _<_}
-use mathlib.Core.Path.{_≡_, refl}
+use Prim.Native.Nat.{ℕ, zero, suc, _+_, _-_, _≤_, _<_}
+use mathlib.Core.Path.{_≡_, refl, ap, _∙_}
+use mathlib.Core.Logic.{_≢_}
 use mathlib.Core.Bool.{true, false}
 use mathlib.Core.List.{List, _++_}
 use native.Mathlib.Omega.{arith}
-use borrow.Author.Tests.{ne-eqb, le-leb, lt-leb}
-use lib.ListN.{length, getD, replicate, length-append, length-replicate, List·getD-append, getD-replicate}
+use borrow.Author.Tests.{ne-eqb}
+use lib.Dec.{T}
+use lib.ListN.{length, getD, drop, replicate, length-append, length-replicate, List·getD-append, getD-replicate}
 use lib.Seq.{getD-append-add}
-use Rattle.calls.specs.Parts.{touchesNothing, madeRounds, answered, worked, written, posted, counted, padded}
+use Rattle.lists.specs.Values.{values}
+use Rattle.lists.proofs.Computed.{allBelow}
+use Rattle.lists.proofs.Values.{values-length}
+use Rattle.calls.specs.Parts.{touchesNothing, beforeRounds, afterRounds, answered, worked, written, posted, padded}
 
--- ---- which numbers
+-- ---- document 01's numbers are in their classes
 
-early : (k : ℕ) → 1 ≤ k → k ≤ 3 → touchesNothing k ≡ true
-early k l h = rw (le-leb 1 k l, le-leb k 3 h)
+one-to-three : T (allBelow 3 (λ j. touchesNothing (1 + j)))
+one-to-three = tt
 
-late : (k : ℕ) → 4 ≤ k → touchesNothing k ≡ false
-late k l = rw (le-leb 1 k (omega arith), lt-leb k 3 (omega arith))
+four-to-nine : T (allBelow 6 (λ j. beforeRounds (4 + j)))
+four-to-nine = tt
 
-roundless : (k : ℕ) → 1 ≤ k → k ≤ 9 → madeRounds k ≡ false
-roundless k l h = rw (ne-eqb k 0 (λ e. omega arith), ne-eqb k 10 (λ e. omega arith), ne-eqb k 11 (λ e. omega arith))
+ten-and-eleven : T (allBelow 2 (λ j. afterRounds (10 + j)))
+ten-and-eleven = tt
 
 -- ---- the answer
 
-pub refused {ℓ} : {A : Type ℓ} (k : ℕ) (R : ℕ → A) (found : A) → 1 ≤ k → answered k R found ≡ R k
+pub refused {ℓ} : {A : Type ℓ} (k : ℕ) (R : ℕ → A) (f : A) → k ≢ 0 → answered k R f ≡ R k
 unfolding answered
-refused k R f l = rw (ne-eqb k 0 (λ e. omega arith))
+refused k R f n = rw (ne-eqb k 0 n)
 
 pub found {ℓ} : {A : Type ℓ} (R : ℕ → A) (f : A) → answered 0 R f ≡ f
 unfolding answered
@@ -33,73 +38,55 @@ found R f = refl
 
 -- ---- a work part
 
-pub untouched {ℓ} : {A : Type ℓ} (k : ℕ) (zero : A) (given : List A) → 1 ≤ k → k ≤ 3 → worked k zero given ≡ given
+pub untouched {ℓ} : {A : Type ℓ} (k : ℕ) (blank : A) (given : List A) → touchesNothing k ≡ true → worked k blank given ≡ given
 unfolding worked
-untouched k zero given l h = rw (early k l h)
+untouched k blank given e = rw e
 
-pub zeroed {ℓ} : {A : Type ℓ} (k : ℕ) (zero : A) (given : List A) → 4 ≤ k → worked k zero given ≡ replicate (length given) zero
+pub zeroed {ℓ} : {A : Type ℓ} (k : ℕ) (blank : A) (given : List A) → touchesNothing k ≡ false → worked k blank given ≡ replicate (length given) blank
 unfolding worked
-zeroed k zero given l = rw (late k l)
-
-pub cleared {ℓ} : {A : Type ℓ} (zero : A) (given : List A) → worked 0 zero given ≡ replicate (length given) zero
-unfolding worked
-cleared zero given = refl
+zeroed k blank given e = rw e
 
 -- ---- an output part
 
-pub kept {ℓ} : {A : Type ℓ} (k : ℕ) (given new : A) → 1 ≤ k → written k given new ≡ given
+pub kept {ℓ} : {A : Type ℓ} (k : ℕ) (given new : A) → k ≢ 0 → written k given new ≡ given
 unfolding written
-kept k given new l = rw (ne-eqb k 0 (λ e. omega arith))
+kept k given new n = rw (ne-eqb k 0 n)
 
 pub put {ℓ} : {A : Type ℓ} (given new : A) → written 0 given new ≡ new
 unfolding written
 put given new = refl
 
--- ---- posteriors and rounds, after no rounds, after rounds that end without a word, and after acceptance
+-- ---- posteriors, and the count of rounds
 
-pub unposted {ℓ} : {A : Type ℓ} (k : ℕ) (given new : A) → 1 ≤ k → k ≤ 9 → posted k given new ≡ given
+pub unposted {ℓ} : {A : Type ℓ} (k : ℕ) (given new : A) → afterRounds k ≡ false → posted k given new ≡ given
 unfolding posted
-unposted k given new l h = rw (roundless k l h)
+unposted k given new e = rw e
 
-pub posted-ten {ℓ} : {A : Type ℓ} (given new : A) → posted 10 given new ≡ new
+pub posted-new {ℓ} : {A : Type ℓ} (k : ℕ) (given new : A) → afterRounds k ≡ true → posted k given new ≡ new
 unfolding posted
-posted-ten given new = refl
-
-pub posted-eleven {ℓ} : {A : Type ℓ} (given new : A) → posted 11 given new ≡ new
-unfolding posted
-posted-eleven given new = refl
-
-pub posted-found {ℓ} : {A : Type ℓ} (given new : A) → posted 0 given new ≡ new
-unfolding posted
-posted-found given new = refl
-
-pub uncounted : (k rounds : ℕ) → 1 ≤ k → k ≤ 9 → counted k rounds ≡ 0
-unfolding counted
-uncounted k rounds l h = rw (roundless k l h)
-
-pub counted-ten : (rounds : ℕ) → counted 10 rounds ≡ rounds
-unfolding counted
-counted-ten rounds = refl
-
-pub counted-eleven : (rounds : ℕ) → counted 11 rounds ≡ rounds
-unfolding counted
-counted-eleven rounds = refl
-
-pub counted-found : (rounds : ℕ) → counted 0 rounds ≡ rounds
-unfolding counted
-counted-found rounds = refl
+posted-new k given new e = rw e
 
 -- ---- an output part that is longer than the answer
 
-module _ {ℓ} {A : Type ℓ} (n : ℕ) (zero : A) (answer : List A) (fits : length answer ≤ n) where
-  pub padded-length : length (padded n zero answer) ≡ n
+module _ {ℓ} {A : Type ℓ} (n : ℕ) (blank : A) (answer : List A) (fits : length answer ≤ n) where
+  pub padded-length : length (padded n blank answer) ≡ n
   unfolding padded
   padded-length = simp (length-append, length-replicate) (omega arith)
 
-  pub padded-in : (k : ℕ) (d : A) → k < length answer → getD (padded n zero answer) k d ≡ getD answer k d
+  pub padded-in : (k : ℕ) (d : A) → k < length answer → getD (padded n blank answer) k d ≡ getD answer k d
   unfolding padded
-  padded-in k d h = List·getD-append answer (replicate (n - length answer) zero) d k h
+  padded-in k d h = List·getD-append answer (replicate (n - length answer) blank) d k h
 
-  pub padded-past : (k : ℕ) (d : A) → k < n - length answer → getD (padded n zero answer) (length answer + k) d ≡ zero
+  pub padded-past : (k : ℕ) (d : A) → k < n - length answer → getD (padded n blank answer) (length answer + k) d ≡ blank
   unfolding padded
-  padded-past k d h = rw (getD-append-add answer (replicate (n - length answer) zero) k d, getD-replicate (n - length answer) k zero d h)
+  padded-past k d h = rw (getD-append-add answer (replicate (n - length answer) blank) k d, getD-replicate (n - length answer) k blank d h)
+
+drop-replicate {ℓ} : {A : Type ℓ} (k n : ℕ) (v : A) → drop k (replicate n v) ≡ replicate (n - k) v
+drop-replicate zero n v = ap (λ (m : ℕ). replicate m v) (let e : n ≡ n - 0 = omega arith in e)
+drop-replicate (suc k) zero v = ap (λ (m : ℕ). replicate m v) (let e : 0 ≡ 0 - suc k = omega arith in e)
+drop-replicate (suc k) (suc n) v = drop-replicate k n v ∙ ap (λ (m : ℕ). replicate m v) (let e : n - k ≡ suc n - suc k = omega arith in e)
+
+-- a cleared part of which k values are filled from the front
+pub padded-fill {ℓ} : {A : Type ℓ} (n k : ℕ) (blank : A) (f : ℕ → A) (l : List A) → l ≡ values k f ++ drop k (replicate n blank) → l ≡ padded n blank (values k f)
+unfolding padded
+padded-fill n k blank f l e = e ∙ rw (drop-replicate k n blank, values-length f k)

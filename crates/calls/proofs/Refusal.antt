@@ -1,33 +1,35 @@
--- Laws of the number: of tests tried one after the other, and of the ways in which a call ends: by an early number (1 to 3), by a later one, by one that
--- its work decides, and by none.
+-- Laws of the number: of tests tried one after the other, and of the ways in which a call ends: by a number that touches nothing, by a later one, by one
+-- that its work decides, and by none.
 -- Assumes nothing.
-use Prim.Native.Nat.{ℕ, suc, _≤_}
-use mathlib.Core.Path.{_≡_, refl, sym, _∙_}
-use mathlib.Core.Bool.{Bool, true, false, not, _&&_, _||_}
+use Prim.Native.Nat.{ℕ, suc}
+use mathlib.Core.Path.{_≡_, refl, sym, ap, _∙_}
+use mathlib.Core.Logic.{_≢_}
+use mathlib.Core.Bool.{Bool, true, false, true≢false, not, _&&_, _||_}
 use mathlib.Core.List.{List, [], _∷_, _++_}
 use native.Mathlib.Omega.{arith}
-use borrow.Author.Tests.{eqb-true, not-false}
+use borrow.Author.Tests.{eqb-true, ne-eqb, not-true, not-false}
 use lib.Dec.{T, eqb, leb, leb→le}
-use Rattle.lists.proofs.Cases.{neither, and-parts}
-use Rattle.calls.specs.Refusal.{some, refusal, misfits}
+use Rattle.lists.proofs.Cases.{neither, and-parts, holds, is-true}
+use Rattle.calls.specs.Refusal.{oneHolds, refusal, misfits}
+use Rattle.calls.specs.Parts.{touchesNothing, beforeRounds, afterRounds}
 
 -- ---- tests tried one after the other: r is what a function said of the test t
 
-pub some-hit : {r t : Bool} (ts : List Bool) → r ≡ t → r ≡ true → true ≡ some (t ∷ ts)
-unfolding some
-some-hit ts e h = rw (← e, h)
+pub one-hit : {r t : Bool} (ts : List Bool) → r ≡ t → r ≡ true → true ≡ oneHolds (t ∷ ts)
+unfolding oneHolds
+one-hit ts e h = rw (← e, h)
 
-pub some-miss : {r s t : Bool} (ts : List Bool) → r ≡ t → r ≡ false → s ≡ some ts → s ≡ some (t ∷ ts)
-unfolding some
-some-miss ts e h q = rw (← e, h, q)
+pub one-miss : {r s t : Bool} (ts : List Bool) → r ≡ t → r ≡ false → s ≡ oneHolds ts → s ≡ oneHolds (t ∷ ts)
+unfolding oneHolds
+one-miss ts e h q = rw (← e, h, q)
 
-pub some-join : {r s t : Bool} (ts : List Bool) → r ≡ t → s ≡ some ts → (r || s) ≡ some (t ∷ ts)
-unfolding some
-some-join ts e h = rw (e, h)
+pub one-join : {r s t : Bool} (ts : List Bool) → r ≡ t → s ≡ oneHolds ts → (r || s) ≡ oneHolds (t ∷ ts)
+unfolding oneHolds
+one-join ts e h = rw (e, h)
 
-pub some-none : false ≡ some []
-unfolding some
-some-none = refl
+pub one-none : false ≡ oneHolds []
+unfolding oneHolds
+one-none = refl
 
 pub refusal-hit : {r t : Bool} {k : ℕ} (ts : List (Bool × ℕ)) → r ≡ t → r ≡ true → k ≡ refusal ((t, k) ∷ ts)
 unfolding refusal
@@ -62,50 +64,60 @@ alike (p ∷ ps) rest e =
 
 -- ---- lists of tests one after the other
 
--- every number from lo to hi
-abbrev pub between : ℕ → ℕ → List (Bool × ℕ) → Bool
-between lo hi [] = true
-between lo hi (t ∷ ts) = leb lo (t .1) && (leb (t .1) hi && between lo hi ts)
+-- every number of a list is of a class
+abbrev pub ofClass : (ℕ → Bool) → List (Bool × ℕ) → Bool
+ofClass class [] = true
+ofClass class (t ∷ ts) = class (t .1) && ofClass class ts
 
-module _ (lo hi k : ℕ) (ts : List (Bool × ℕ)) (p : T (leb lo k && (leb k hi && between lo hi ts))) where
-  low : lo ≤ k
-  low = leb→le lo k (and-parts (leb lo k) (leb k hi && between lo hi ts) p .0)
+module _ (class : ℕ → Bool) where
+  of-class : (ts : List (Bool × ℕ)) → T (ofClass class ts) → refusal ts ≢ 0 → class (refusal ts) ≡ true
+  unfolding refusal
+  of-class [] p z = absurd (z refl)
+  of-class ((true, k) ∷ ts) p z = holds (class k) (and-parts (class k) (ofClass class ts) p .0)
+  of-class ((false, k) ∷ ts) p z = of-class ts (and-parts (class k) (ofClass class ts) p .1) z
 
-  high : T (leb k hi && between lo hi ts)
-  high = and-parts (leb lo k) (leb k hi && between lo hi ts) p .1
+  -- 0 is no number of the class
+  later : class 0 ≡ false → (a b : List (Bool × ℕ)) → T (ofClass class a) → refusal a ≡ 0 → refusal (a ++ b) ≡ refusal b
+  unfolding refusal
+  later n [] b p e = refl
+  later n ((true, k) ∷ ts) b p e = absurd (true≢false (sym (holds (class k) (and-parts (class k) (ofClass class ts) p .0)) ∙ ap class e ∙ n))
+  later n ((false, k) ∷ ts) b p e = later n ts b (and-parts (class k) (ofClass class ts) p .1) e
 
-  after : T (between lo hi ts)
-  after = and-parts (leb k hi) (between lo hi ts) high .1
-
-range : (lo hi : ℕ) (ts : List (Bool × ℕ)) → T (between lo hi ts) → (refusal ts ≡ 0 → ⊥) → (lo ≤ refusal ts) × (refusal ts ≤ hi)
-unfolding refusal
-range lo hi [] p z = absurd (z refl)
-range lo hi ((true, k) ∷ ts) p z = (low lo hi k ts p, leb→le k hi (and-parts (leb k hi) (between lo hi ts) (high lo hi k ts p) .0))
-range lo hi ((false, k) ∷ ts) p z = range lo hi ts (after lo hi k ts p) z
-
-first : (a b : List (Bool × ℕ)) → (refusal a ≡ 0 → ⊥) → refusal (a ++ b) ≡ refusal a
+first : (a b : List (Bool × ℕ)) → refusal a ≢ 0 → refusal (a ++ b) ≡ refusal a
 unfolding refusal
 first [] b z = absurd (z refl)
 first ((true, k) ∷ ts) b z = refl
 first ((false, k) ∷ ts) b z = first ts b z
 
-later : (lo hi : ℕ) (a b : List (Bool × ℕ)) → 1 ≤ lo → T (between lo hi a) → refusal a ≡ 0 → refusal (a ++ b) ≡ refusal b
-unfolding refusal
-later lo hi [] b o p e = refl
-later lo hi ((true, k) ∷ ts) b o p e = let h = low lo hi k ts p in absurd (omega arith)
-later lo hi ((false, k) ∷ ts) b o p e = later lo hi ts b o (after lo hi k ts p) e
+-- ---- the ways in which a call ends: `a` are the tests that touch nothing and d their number, `b` those before any rounds and e theirs, `c` those that the
+-- work decides and f theirs
 
--- ---- the ways in which a call ends: `a` are the tests of 1 to 3 and d their number, `b` later ones and e theirs, `c` those that the work decides and f theirs
+-- a number that touches nothing is none after rounds
+apart : (k : ℕ) → touchesNothing k ≡ true → afterRounds k ≡ false
+apart k t =
+    let b = and-parts (leb 1 k) (leb k 3) (is-true (touchesNothing k) t) in
+    let lo = leb→le 1 k (b .0) in
+    let hi = leb→le k 3 (b .1) in
+    rw (ne-eqb k 0 (λ e. omega arith), ne-eqb k 10 (λ e. omega arith), ne-eqb k 11 (λ e. omega arith))
 
-pub stopped : (a b : List (Bool × ℕ)) → T (between 1 3 a) → {d : ℕ} → d ≡ refusal a → (d ≡ 0 → ⊥) → (refusal (a ++ b) ≡ d) × (1 ≤ d) × (d ≤ 3)
+-- and one before rounds is in neither of the other classes
+between : (k : ℕ) → beforeRounds k ≡ true → (touchesNothing k ≡ false) × (afterRounds k ≡ false)
+between k t =
+    let b = and-parts (not (touchesNothing k)) (not (afterRounds k)) (is-true (beforeRounds k) t) in
+    (not-true (touchesNothing k) (holds (not (touchesNothing k)) (b .0)), not-true (afterRounds k) (holds (not (afterRounds k)) (b .1)))
+
+pub stopped : (a b : List (Bool × ℕ)) → T (ofClass touchesNothing a) → {d : ℕ} → d ≡ refusal a → d ≢ 0 → (refusal (a ++ b) ≡ d) × (touchesNothing d ≡ true) × (afterRounds d ≡ false)
 stopped a b p {d} h z =
-    let r = range 1 3 a p (λ q. z (h ∙ q)) in
-    (first a b (λ q. z (h ∙ q)) ∙ sym h, omega arith, omega arith)
+    let t = ap touchesNothing h ∙ of-class touchesNothing a p (λ q. z (h ∙ q)) in
+    (first a b (λ q. z (h ∙ q)) ∙ sym h, t, apart d t)
 
-pub turned : (a b c : List (Bool × ℕ)) → T (between 1 3 a) → T (between 4 9 b) → {d e : ℕ} → d ≡ refusal a → d ≡ 0 → e ≡ refusal b → (e ≡ 0 → ⊥) → (refusal (a ++ (b ++ c)) ≡ e) × (1 ≤ e) × (4 ≤ e) × (e ≤ 9)
+pub turned : (a b c : List (Bool × ℕ)) → T (ofClass touchesNothing a) → T (ofClass beforeRounds b) → {d e : ℕ} → d ≡ refusal a → d ≡ 0 → e ≡ refusal b → e ≢ 0 → (refusal (a ++ (b ++ c)) ≡ e) × (touchesNothing e ≡ false) × (afterRounds e ≡ false)
 turned a b c p q {d} {e} h n g z =
-    let r = range 4 9 b q (λ y. z (g ∙ y)) in
-    (later 1 3 a (b ++ c) (omega arith) p (sym h ∙ n) ∙ first b c (λ y. z (g ∙ y)) ∙ sym g, omega arith, omega arith, omega arith)
+    let t = between e (ap beforeRounds g ∙ of-class beforeRounds b q (λ y. z (g ∙ y))) in
+    (later touchesNothing refl a (b ++ c) p (sym h ∙ n) ∙ first b c (λ y. z (g ∙ y)) ∙ sym g, t .0, t .1)
 
-pub decided : (a b c : List (Bool × ℕ)) → T (between 1 3 a) → T (between 4 9 b) → {d e f : ℕ} → d ≡ refusal a → d ≡ 0 → e ≡ refusal b → e ≡ 0 → f ≡ refusal c → refusal (a ++ (b ++ c)) ≡ f
-decided a b c p q h n g z k = later 1 3 a (b ++ c) (omega arith) p (sym h ∙ n) ∙ later 4 9 b c (omega arith) q (sym g ∙ z) ∙ sym k
+pub decided : (a b c : List (Bool × ℕ)) → T (ofClass touchesNothing a) → T (ofClass beforeRounds b) → {d e f : ℕ} → d ≡ refusal a → d ≡ 0 → e ≡ refusal b → e ≡ 0 → f ≡ refusal c → refusal (a ++ (b ++ c)) ≡ f
+decided a b c p q h n g z k = later touchesNothing refl a (b ++ c) p (sym h ∙ n) ∙ later beforeRounds refl b c q (sym g ∙ z) ∙ sym k
+
+pub through : (a b : List (Bool × ℕ)) → T (ofClass touchesNothing a) → {d e : ℕ} → d ≡ refusal a → d ≡ 0 → e ≡ refusal b → e ≡ 0 → refusal (a ++ b) ≡ 0
+through a b p h n g z = later touchesNothing refl a b p (sym h ∙ n) ∙ sym g ∙ z

@@ -11,9 +11,9 @@ refusal [] = 0
 refusal (t ∷ ts) = cond (t .0) (t .1) (refusal ts)
 
 -- whether one of several tests that share a number holds
-unfoldable pub some : List Bool → Bool
-some [] = false
-some (t ∷ ts) = t || some ts
+unfoldable pub oneHolds : List Bool → Bool
+oneHolds [] = false
+oneHolds (t ∷ ts) = t || oneHolds ts
 
 -- number 3, "A lent part of the wrong length": each part's length stands beside the one that it should have, and `rest` is the test of further parts
 abbrev pub misfits : List (ℕ × ℕ) → Bool → Bool

@@ -6,7 +6,7 @@ use Prim.Native.Nat.{ℕ, zero, suc, _*_, _/_, _%_, _<_}
 use native.Mathlib.Nat.{le-of-suc-le-suc, not-suc-le-zero, zero-mul, one-mul}
 use lib.Dec.{ltb, ltb→lt, lit<}
 use lib.Bits.{bitXor}
-use Rattle.lists.proofs.Computed.{below, equal1, equal2}
+use Rattle.lists.proofs.Computed.{allBelow-at, equal1, equal2}
 use Rattle.field.specs.Field.{modulus, polyMul, polyRem}
 use Rattle.field.proofs.Sum.{mod2, xor-inter, xor32}
 
@@ -32,7 +32,7 @@ defined = equal2 32 (λ a b. polyRem 4 (polyMul 5 a b)) horner tt
 
 timesX-lt : (a : ℕ) → a < 32 → timesX a < 32
 unfolding timesX
-timesX-lt a h = ltb→lt (timesX a) 32 (below 32 (λ x. ltb (timesX x) 32) tt a h)
+timesX-lt a h = ltb→lt (timesX a) 32 (allBelow-at 32 (λ x. ltb (timesX x) 32) tt a h)
 
 timesX-xor : (a b : ℕ) → a < 32 → b < 32 → timesX (bitXor a b) ≡ bitXor (timesX a) (timesX b)
 unfolding timesX
@@ -50,22 +50,27 @@ pub horner-zero : (b : ℕ) → b < 32 → horner 0 b ≡ 0
 unfolding horner
 horner-zero = equal1 32 (horner 0) (λ b. 0) tt
 
--- ---- a coefficient times a polynomial
+-- ---- a coefficient, which is 0 or 1, times a polynomial
+
+digit : (P : ℕ → Type 0) → P 0 → P 1 → (x : ℕ) → x < 2 → P x
+digit P p₀ p₁ zero h = p₀
+digit P p₀ p₁ (suc zero) h = p₁
+digit P p₀ p₁ (suc (suc x)) h = absurd (not-suc-le-zero (le-of-suc-le-suc (le-of-suc-le-suc h)))
 
 digit-xor : (x b c : ℕ) → x < 2 → x * bitXor b c ≡ bitXor (x * b) (x * c)
-digit-xor zero b c h = zero-mul (bitXor b c) ∙ sym (ap₂ bitXor (zero-mul b) (zero-mul c))
-digit-xor (suc zero) b c h = one-mul (bitXor b c) ∙ sym (ap₂ bitXor (one-mul b) (one-mul c))
-digit-xor (suc (suc x)) b c h = absurd (not-suc-le-zero (le-of-suc-le-suc (le-of-suc-le-suc h)))
+digit-xor x b c =
+    digit (λ (x : ℕ). x * bitXor b c ≡ bitXor (x * b) (x * c))
+    (zero-mul (bitXor b c) ∙ sym (ap₂ bitXor (zero-mul b) (zero-mul c)))
+    (one-mul (bitXor b c) ∙ sym (ap₂ bitXor (one-mul b) (one-mul c))) x
 
 digit-lt : (x b : ℕ) → x < 2 → b < 32 → x * b < 32
-digit-lt zero b h k = rw zero-mul (lit< tt)
-digit-lt (suc zero) b h k = rw one-mul k
-digit-lt (suc (suc x)) b h k = absurd (not-suc-le-zero (le-of-suc-le-suc (le-of-suc-le-suc h)))
+digit-lt x b h k = digit (λ (x : ℕ). x * b < 32) (rw zero-mul (lit< tt)) (rw one-mul k) x h
 
 digit-horner : (x b c : ℕ) → x < 2 → c < 32 → horner (x * b) c ≡ x * horner b c
-digit-horner zero b c h k = ap (λ (y : ℕ). horner y c) (zero-mul b) ∙ horner-zero c k ∙ sym (zero-mul (horner b c))
-digit-horner (suc zero) b c h k = ap (λ (y : ℕ). horner y c) (one-mul b) ∙ sym (one-mul (horner b c))
-digit-horner (suc (suc x)) b c h k = absurd (not-suc-le-zero (le-of-suc-le-suc (le-of-suc-le-suc h)))
+digit-horner x b c h k =
+    digit (λ (x : ℕ). horner (x * b) c ≡ x * horner b c)
+    (ap (λ (y : ℕ). horner y c) (zero-mul b) ∙ horner-zero c k ∙ sym (zero-mul (horner b c)))
+    (ap (λ (y : ℕ). horner y c) (one-mul b) ∙ sym (one-mul (horner b c))) x h
 
 -- ---- by induction on the digits
 

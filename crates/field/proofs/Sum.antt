@@ -6,7 +6,7 @@ use native.Mathlib.Nat.{mod-lt}
 use lib.Dec.{eqb, eqb→eq, lit<}
 use lib.Arith.{bin-ind}
 use lib.Bits.{bitXor, differ, xor-step, xor-shr, xor-mod, xor-lt, xor-comm, xor-zero-l, xor-self}
-use Rattle.lists.proofs.Computed.{all, below, below2, equal2}
+use Rattle.lists.proofs.Computed.{allBelow, allBelow-at, allBelow-at2, equal2}
 
 pub mod2 : (n : ℕ) → n % 2 < 2
 mod2 n = mod-lt n (lit< tt)
@@ -20,8 +20,8 @@ odd a b = xor-mod a b 1 ∙ equal2 2 bitXor differ tt (a % 2) (b % 2) (mod2 a) (
 differ-assoc : (x y z : ℕ) → x < 2 → y < 2 → z < 2 → differ (differ x y) z ≡ differ x (differ y z)
 differ-assoc x y z hx hy hz =
     eqb→eq (differ (differ x y) z) (differ x (differ y z))
-    (below 2 (λ c. eqb (differ (differ x y) c) (differ x (differ y c)))
-    (below2 2 (λ a b. all 2 (λ c. eqb (differ (differ a b) c) (differ a (differ b c)))) tt x y hx hy) z hz)
+    (allBelow-at 2 (λ c. eqb (differ (differ x y) c) (differ x (differ y c)))
+    (allBelow-at2 2 (λ a b. allBelow 2 (λ c. eqb (differ (differ a b) c) (differ a (differ b c)))) tt x y hx hy) z hz)
 
 pub xor-assoc : (a b c : ℕ) → bitXor (bitXor a b) c ≡ bitXor a (bitXor b c)
 xor-assoc a =

@@ -16,22 +16,23 @@ unfoldable pub polyMul : ℕ → ℕ → ℕ → ℕ
 polyMul zero a b = 0
 polyMul (suc d) a b = bitXor ((a % 2) * b) (2 * polyMul d (a / 2) b)
 
--- the remainder of p, of 5 + d coefficients, by the modulus: where p has a term of degree 4 + d, the modulus times the power of x that cancels it is taken away
+-- the remainder by the modulus of a polynomial p of 5 + d coefficients. Of 6 + d coefficients the highest is that of x to the power 5 + d: where it is 1, the
+-- modulus times x to the power d, which cancels it, is taken away
 unfoldable pub polyRem : ℕ → ℕ → ℕ
 polyRem zero p = p
 polyRem (suc d) p = polyRem d (cond (ltb p (2 ^ (5 + d))) p (bitXor p (modulus * 2 ^ d)))
 
 -- the product of two elements; of a number above 31 the five lowest digits count
-unfoldable pub mul : ℕ → ℕ → ℕ
+unfoldable pub product : ℕ → ℕ → ℕ
 unfolding polyMul polyRem
-mul a b = polyRem 4 (polyMul 5 (a % 32) (b % 32))
+product a b = polyRem 4 (polyMul 5 (a % 32) (b % 32))
 
 unfoldable pub power : ℕ → ℕ → ℕ
-unfolding mul
+unfolding product
 power a zero = 1
-power a (suc k) = mul a (power a k)
+power a (suc k) = product a (power a k)
 
 -- the inverse of an element other than 0, whose 31st power is 1
-unfoldable pub inv : ℕ → ℕ
+unfoldable pub inverse : ℕ → ℕ
 unfolding power
-inv a = power a 30
+inverse a = power a 30

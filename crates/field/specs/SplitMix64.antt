@@ -1,4 +1,4 @@
--- SplitMix64, as published: Steele, Lea, Flood, "Fast splittable pseudorandom number generators", OOPSLA 2014, with the constants of Vigna's splitmix64.c.
+-- SplitMix64, as published: the generator of Steele, Lea and Flood (OOPSLA 2014) with the increment, shifts and constants of Vigna's splitmix64.c.
 -- The state is a number below 2 ^ 64; every sum and product is taken modulo 2 ^ 64.
 -- Assumes nothing.
 use Prim.Native.Nat.{ℕ, _+_, _*_, _/_, _%_, _^_}

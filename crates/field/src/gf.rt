@@ -1,12 +1,12 @@
 // The field of 32 elements: GF(2^5) with the primitive polynomial x^5 + x^2 + 1. The sum is `^`.
 ghost use mathlib.Core.Path.{_≡_};
-ghost use Rattle.field.specs.Field.{mul, inv};
+ghost use Rattle.field.specs.Field.{product, inverse};
 use crate::tables::EXP;
 use crate::tables::LOG;
 
 // Of a factor above 31 the five lowest bits count.
 pub fn mul(a: u8, b: u8) -> u8
-    ensures { λ r. ⌜ r ≡ mul a b ⌝ }
+    ensures { λ r. ⌜ r ≡ product a b ⌝ }
 {
     let x = (a % 32) as usize;
     let y = (b % 32) as usize;
@@ -20,7 +20,7 @@ pub fn mul(a: u8, b: u8) -> u8
 
 // 0 has no inverse, and 0 is answered for it.
 pub fn inv(a: u8) -> u8
-    ensures { λ r. ⌜ r ≡ inv a ⌝ }
+    ensures { λ r. ⌜ r ≡ inverse a ⌝ }
 {
     let x = (a % 32) as usize;
     if x == 0 {

@@ -1,6 +1,6 @@
--- Two numbers are the same or not, one is less or not; and the two halves of an "or" and of an "and".
+-- Two numbers are the same or not, one is less or not; a test that holds; and the two halves of an "or" and of an "and".
 -- Assumes nothing.
-use mathlib.Core.Path.{_≡_, refl}
+use mathlib.Core.Path.{_≡_, refl, sym, subst}
 use mathlib.Core.Logic.{_≢_, _⊎_, inl, inr}
 use mathlib.Core.Bool.{Bool, true, false, _||_, _&&_}
 use Prim.Native.Nat.{ℕ, _<_, _≤_}
@@ -25,6 +25,13 @@ less-or-not a b = go (decLt a b)
 pub true-or-false : (t : Bool) → (t ≡ true) ⊎ (t ≡ false)
 true-or-false true = inl refl
 true-or-false false = inr refl
+
+pub holds : (t : Bool) → T t → t ≡ true
+holds true h = refl
+holds false h = absurd h
+
+pub is-true : (t : Bool) → t ≡ true → T t
+is-true t e = subst (λ (x : Bool). T x) (sym e) tt
 
 pub neither : (a b : Bool) → (a || b) ≡ false → (a ≡ false) × (b ≡ false)
 neither false b e = (refl, e)

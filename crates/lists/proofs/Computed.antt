@@ -8,25 +8,25 @@ use native.Mathlib.Nat.{eq-or-lt-of-le, le-of-suc-le-suc, not-suc-le-zero}
 use lib.Dec.{T, eqb, eqb→eq}
 use Rattle.lists.proofs.Cases.{and-parts}
 
--- the test passes at each number below n
-abbrev pub all : ℕ → (ℕ → Bool) → Bool
-all zero test = true
-all (suc n) test = test n && all n test
+-- the test passes at each number allBelow-at n
+abbrev pub allBelow : ℕ → (ℕ → Bool) → Bool
+allBelow zero test = true
+allBelow (suc n) test = test n && allBelow n test
 
-pub below : (n : ℕ) (test : ℕ → Bool) → T (all n test) → (k : ℕ) → k < n → T (test k)
-below zero test t k h = absurd (not-suc-le-zero h)
-below (suc n) test t k h = go (below n test (and-parts (test n) (all n test) t .1) k) (eq-or-lt-of-le (le-of-suc-le-suc h))
+pub allBelow-at : (n : ℕ) (test : ℕ → Bool) → T (allBelow n test) → (k : ℕ) → k < n → T (test k)
+allBelow-at zero test t k h = absurd (not-suc-le-zero h)
+allBelow-at (suc n) test t k h = go (allBelow-at n test (and-parts (test n) (allBelow n test) t .1) k) (eq-or-lt-of-le (le-of-suc-le-suc h))
   where
     go : (k < n → T (test k)) → (k ≡ n) ⊎ (k < n) → T (test k)
-    go ih (inl e) = subst (λ (x : ℕ). T (test x)) (sym e) (and-parts (test n) (all n test) t .0)
+    go ih (inl e) = subst (λ (x : ℕ). T (test x)) (sym e) (and-parts (test n) (allBelow n test) t .0)
     go ih (inr l) = ih l
 
--- at each pair below n
-pub below2 : (n : ℕ) (test : ℕ → ℕ → Bool) → T (all n (λ a. all n (test a))) → (a b : ℕ) → a < n → b < n → T (test a b)
-below2 n test t a b ha hb = below n (test a) (below n (λ x. all n (test x)) t a ha) b hb
+-- at each pair allBelow-at n
+pub allBelow-at2 : (n : ℕ) (test : ℕ → ℕ → Bool) → T (allBelow n (λ a. allBelow n (test a))) → (a b : ℕ) → a < n → b < n → T (test a b)
+allBelow-at2 n test t a b ha hb = allBelow-at n (test a) (allBelow-at n (λ x. allBelow n (test x)) t a ha) b hb
 
-pub equal1 : (n : ℕ) (f g : ℕ → ℕ) → T (all n (λ a. eqb (f a) (g a))) → (a : ℕ) → a < n → f a ≡ g a
-equal1 n f g t a ha = eqb→eq (f a) (g a) (below n (λ x. eqb (f x) (g x)) t a ha)
+pub equal1 : (n : ℕ) (f g : ℕ → ℕ) → T (allBelow n (λ a. eqb (f a) (g a))) → (a : ℕ) → a < n → f a ≡ g a
+equal1 n f g t a ha = eqb→eq (f a) (g a) (allBelow-at n (λ x. eqb (f x) (g x)) t a ha)
 
-pub equal2 : (n : ℕ) (f g : ℕ → ℕ → ℕ) → T (all n (λ a. all n (λ b. eqb (f a b) (g a b)))) → (a b : ℕ) → a < n → b < n → f a b ≡ g a b
-equal2 n f g t a b ha hb = eqb→eq (f a b) (g a b) (below2 n (λ x y. eqb (f x y) (g x y)) t a b ha hb)
+pub equal2 : (n : ℕ) (f g : ℕ → ℕ → ℕ) → T (allBelow n (λ a. allBelow n (λ b. eqb (f a b) (g a b)))) → (a b : ℕ) → a < n → b < n → f a b ≡ g a b
+equal2 n f g t a b ha hb = eqb→eq (f a b) (g a b) (allBelow-at2 n (λ x y. eqb (f x y) (g x y)) t a b ha hb)

@@ -2,24 +2,20 @@
 -- Assumes nothing.
 use mathlib.Core.Path.{_≡_, refl, sym, ap, _∙_}
 use mathlib.Core.Logic.{_≢_, _⊎_, inl, inr, ⊎-elim}
-use mathlib.Core.Bool.{Bool, true, false, cond, not, _||_}
+use mathlib.Core.Bool.{Bool, true, false, not, _||_}
 use Prim.Native.Nat.{ℕ, zero, suc, _<_, _≤_}
 use native.Mathlib.Nat.{le-refl, not-suc-le-zero}
 use native.Mathlib.Omega.{arith}
-use borrow.Author.Tests.{eq-eqb, ne-eqb, eqb-true, eqb-false, lt-leb, leb-false, not-true}
+use borrow.Author.Tests.{ne-eqb, eqb-true, eqb-false, lt-leb, leb-false, not-true}
 use lib.Dec.{eqb, leb}
-use Rattle.lists.specs.Any.{any}
-use Rattle.lists.specs.EachOnce.{EachOnce, strays, repeats, eachOnce}
+use Rattle.lists.specs.AnyBelow.{anyBelow}
+use Rattle.lists.specs.Choice.{pick}
+use Rattle.lists.specs.EachOnce.{EachOnce, outside, repeated, eachOnce}
 use Rattle.lists.proofs.Cases.{same-or-not, less-or-not, neither, true-or-false}
-use Rattle.lists.proofs.Any.{any-not, any-none, any-some}
+use Rattle.lists.proofs.Choice.{pick-same, pick-other}
+use Rattle.lists.proofs.AnyBelow.{anyBelow-not, anyBelow-none, anyBelow-some}
 
 -- ---- the pigeonhole step
-
-cond-same : (a b x y : ℕ) → a ≡ b → cond (eqb a b) x y ≡ x
-cond-same a b x y e = rw (eq-eqb a b e)
-
-cond-other : (a b x y : ℕ) → a ≢ b → cond (eqb a b) x y ≡ y
-cond-other a b x y n = rw (ne-eqb a b n)
 
 -- n + 1 numbers below n: two are the same
 pub pigeonhole : (n : ℕ) (f : ℕ → ℕ) → ((t : ℕ) → t < suc n → f t < n) → ((t v : ℕ) → t < suc n → v < suc n → f t ≡ f v → t ≡ v) → ⊥
@@ -28,13 +24,13 @@ pigeonhole (suc n) f a b = pigeonhole n g inside distinct
   where
     -- the last one's number takes the place of n
     g : ℕ → ℕ
-    g t = cond (eqb (f t) n) (f (suc n)) (f t)
+    g t = pick (eqb (f t) n) (f (suc n)) (f t)
 
     at : (t : ℕ) → f t ≡ n → g t ≡ f (suc n)
-    at t e = cond-same (f t) n (f (suc n)) (f t) e
+    at t e = pick-same (f t) n (f (suc n)) (f t) e
 
     off : (t : ℕ) → f t ≢ n → g t ≡ f t
-    off t k = cond-other (f t) n (f (suc n)) (f t) k
+    off t k = pick-other (f t) n (f (suc n)) (f t) k
 
     last : (t : ℕ) → t < suc n → f t ≢ f (suc n)
     last t h e = let q = b t (suc n) (omega arith) (le-refl (suc (suc n))) e in omega arith
@@ -58,15 +54,15 @@ pigeonhole (suc n) f a b = pigeonhole n g inside distinct
 -- ---- each position is there
 
 -- whether j is one of f 0, .., f (n - 1)
-found : (n : ℕ) (f : ℕ → ℕ) (j : ℕ) → ((t : ℕ) × (t < n) × (f t ≡ j)) ⊎ ((t : ℕ) → t < n → f t ≢ j)
-found n f j =
+pub among-or-not : (n : ℕ) (f : ℕ → ℕ) (j : ℕ) → ((t : ℕ) × (t < n) × (f t ≡ j)) ⊎ ((t : ℕ) → t < n → f t ≢ j)
+among-or-not n f j =
     ⊎-elim
-    (λ e. let r = any-some n (λ t. eqb (f t) j) e in inl (r .0, r .1, eqb-true (f (r .0)) j (r .2)))
-    (λ e. inr (λ t h. eqb-false (f t) j (any-not n t (λ t. eqb (f t) j) e h)))
-    (true-or-false (any n (λ t. eqb (f t) j)))
+    (λ e. let r = anyBelow-some n (λ t. eqb (f t) j) e in inl (r .0, r .1, eqb-true (f (r .0)) j (r .2)))
+    (λ e. inr (λ t h. eqb-false (f t) j (anyBelow-not n t (λ t. eqb (f t) j) e h)))
+    (true-or-false (anyBelow n (λ t. eqb (f t) j)))
 
-pub each-there : (n : ℕ) (f : ℕ → ℕ) → EachOnce n f → (j : ℕ) → j < n → (t : ℕ) × (t < n) × (f t ≡ j)
-each-there n f w j h = go (found n f j)
+pub eachOnce-has : (n : ℕ) (f : ℕ → ℕ) → EachOnce n f → (j : ℕ) → j < n → (t : ℕ) × (t < n) × (f t ≡ j)
+eachOnce-has n f w j h = go (among-or-not n f j)
   where
     go : ((t : ℕ) × (t < n) × (f t ≡ j)) ⊎ ((t : ℕ) → t < n → f t ≢ j) → (t : ℕ) × (t < n) × (f t ≡ j)
     go (inl r) = r
@@ -74,39 +70,39 @@ each-there n f w j h = go (found n f j)
       where
         -- j as one more
         g : ℕ → ℕ
-        g t = cond (eqb t n) j (f t)
+        g t = pick (eqb t n) j (f t)
 
         at : (t : ℕ) → t ≡ n → g t ≡ j
-        at t e = cond-same t n j (f t) e
+        at t e = pick-same t n j (f t) e
 
         off : (t : ℕ) → t ≢ n → g t ≡ f t
-        off t k = cond-other t n j (f t) k
+        off t k = pick-other t n j (f t) k
 
         inside : (t : ℕ) → t < suc n → g t < n
         inside t l = ⊎-elim (λ e. rw (at t e) h) (λ k. rw (off t k) (w .inside t (omega (arith, k)))) (same-or-not t n)
 
         distinct : (t v : ℕ) → t < suc n → v < suc n → g t ≡ g v → t ≡ v
-        distinct t v l m q = pick (same-or-not t n) (same-or-not v n)
+        distinct t v l m q = by (same-or-not t n) (same-or-not v n)
           where
-            pick : (t ≡ n) ⊎ (t ≢ n) → (v ≡ n) ⊎ (v ≢ n) → t ≡ v
-            pick (inl e) (inl e′) = e ∙ sym e′
-            pick (inl e) (inr y) = absurd (none v (omega (arith, y)) (sym (sym (at t e) ∙ q ∙ off v y)))
-            pick (inr y) (inl e) = absurd (none t (omega (arith, y)) (sym (off t y) ∙ q ∙ at v e))
-            pick (inr y) (inr z) = w .distinct t v (omega (arith, y)) (omega (arith, z)) (sym (off t y) ∙ q ∙ off v z)
+            by : (t ≡ n) ⊎ (t ≢ n) → (v ≡ n) ⊎ (v ≢ n) → t ≡ v
+            by (inl e) (inl e′) = e ∙ sym e′
+            by (inl e) (inr y) = absurd (none v (omega (arith, y)) (sym (sym (at t e) ∙ q ∙ off v y)))
+            by (inr y) (inl e) = absurd (none t (omega (arith, y)) (sym (off t y) ∙ q ∙ at v e))
+            by (inr y) (inr z) = w .distinct t v (omega (arith, y)) (omega (arith, z)) (sym (off t y) ∙ q ∙ off v z)
 
 -- ---- the tests
 
 module _ (n : ℕ) (f : ℕ → ℕ) where
-  pub no-stray : (m : ℕ) → strays m n f ≡ false → (t : ℕ) → t < n → f t < m
-  unfolding strays
-  no-stray m e t h = leb-false m (f t) (any-not n t (λ t. leb m (f t)) e h)
+  pub not-outside : (m : ℕ) → outside m n f ≡ false → (t : ℕ) → t < n → f t < m
+  unfolding outside
+  not-outside m e t h = leb-false m (f t) (anyBelow-not n t (λ t. leb m (f t)) e h)
 
-  apart : repeats n f ≡ false → (t v : ℕ) → t < n → v < t → f t ≢ f v
-  unfolding repeats
-  apart e t v h l = eqb-false (f t) (f v) (any-not t v (λ v. eqb (f t) (f v)) (any-not n t (λ t. any t (λ v. eqb (f t) (f v))) e h) l)
+  apart : repeated n f ≡ false → (t v : ℕ) → t < n → v < t → f t ≢ f v
+  unfolding repeated
+  apart e t v h l = eqb-false (f t) (f v) (anyBelow-not t v (λ v. eqb (f t) (f v)) (anyBelow-not n t (λ t. anyBelow t (λ v. eqb (f t) (f v))) e h) l)
 
-  pub no-repeat : repeats n f ≡ false → (t v : ℕ) → t < n → v < n → f t ≡ f v → t ≡ v
-  no-repeat e t v h l q =
+  pub not-repeated : repeated n f ≡ false → (t v : ℕ) → t < n → v < n → f t ≡ f v → t ≡ v
+  not-repeated e t v h l q =
       ⊎-elim
       (λ a. absurd (apart e v t l a (sym q)))
       (λ a. ⊎-elim (λ d. d) (λ d. absurd (apart e t v h (omega (arith, d)) q)) (same-or-not t v))
@@ -114,12 +110,12 @@ module _ (n : ℕ) (f : ℕ → ℕ) where
 
   pub eachOnce-true : eachOnce n f ≡ true → EachOnce n f
   unfolding eachOnce
-  eachOnce-true e = let b = neither (strays n n f) (repeats n f) (not-true (strays n n f || repeats n f) e) in record { inside = no-stray n (b .0); distinct = no-repeat (b .1) }
+  eachOnce-true e = let b = neither (outside n n f) (repeated n f) (not-true (outside n n f || repeated n f) e) in record { inside = not-outside n (b .0); distinct = not-repeated (b .1) }
 
   pub true-eachOnce : EachOnce n f → eachOnce n f ≡ true
-  unfolding eachOnce strays repeats
+  unfolding eachOnce outside repeated
   true-eachOnce w =
       rw (
-        any-none n (λ t. leb n (f t)) (λ t h. lt-leb n (f t) (w .inside t h)),
-        any-none n (λ t. any t (λ v. eqb (f t) (f v))) (λ t h. any-none t (λ v. eqb (f t) (f v)) (λ v l. ne-eqb (f t) (f v) (λ q. let e = w .distinct t v h (omega arith) q in omega arith))),
+        anyBelow-none n (λ t. leb n (f t)) (λ t h. lt-leb n (f t) (w .inside t h)),
+        anyBelow-none n (λ t. anyBelow t (λ v. eqb (f t) (f v))) (λ t h. anyBelow-none t (λ v. eqb (f t) (f v)) (λ v l. ne-eqb (f t) (f v) (λ q. let e = w .distinct t v h (omega arith) q in omega arith))),
       )

@@ -33,3 +33,9 @@ pub iter-keeps {ℓ ℓ′} : {S : Type ℓ} (P : ℕ → S → Type ℓ′) (n 
 unfolding iter
 iter-keeps P zero f s p step = p
 iter-keeps P (suc n) f s p step = step n (le-refl (suc n)) (iter n f s) (iter-keeps P n f s p (λ k h t q. step k (omega arith) t q))
+
+-- one part of the state goes by itself where its turn needs no other part
+pub iter-part {ℓ ℓ′} : {S : Type ℓ} {P : Type ℓ′} (part : S → P) (n : ℕ) (f : ℕ → S → S) (g : ℕ → P → P) (s : S) → ((k : ℕ) → k < n → (t : S) → part (f k t) ≡ g k (part t)) → part (iter n f s) ≡ iter n g (part s)
+unfolding iter
+iter-part part zero f g s e = refl
+iter-part part (suc n) f g s e = e n (le-refl (suc n)) (iter n f s) ∙ ap (g n) (iter-part part n f g s (λ k h t. e k (omega arith) t))

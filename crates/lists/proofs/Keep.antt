@@ -2,7 +2,7 @@
 -- Assumes nothing.
 use Prim.Native.Nat.{ℕ, zero, suc, _+_, _<_, _≤_}
 use mathlib.Core.Path.{_≡_, refl, ap, sym, _∙_}
-use mathlib.Core.Bool.{Bool, true, false}
+use mathlib.Core.Bool.{Bool, true, false, not}
 use mathlib.Core.List.{List, [], _∷_, _++_, append-assoc, append-nil}
 use mathlib.Core.Logic.{⊎-elim, _⊎_, inl, inr}
 use native.Mathlib.Nat.{not-suc-le-zero, le-of-suc-le-suc, le-of-lt, le-refl, le-step, eq-or-lt-of-le}
@@ -43,49 +43,49 @@ module _ (test : ℕ → Bool) (l out : List ℕ) (j w x : ℕ) (h : j < length 
 -- ---- of the numbers below m
 
 module _ (test : ℕ → Bool) where
-  below-yes : (m : ℕ) → test m ≡ true → keepBelow test (suc m) ≡ keepBelow test m ++ m ∷ []
+  keepBelow-yes : (m : ℕ) → test m ≡ true → keepBelow test (suc m) ≡ keepBelow test m ++ m ∷ []
   unfolding keepBelow
-  below-yes m t = rw (pick-true (test m) (m ∷ []) [] t)
+  keepBelow-yes m t = rw (pick-true (test m) (m ∷ []) [] t)
 
-  below-no : (m : ℕ) → test m ≡ false → keepBelow test (suc m) ≡ keepBelow test m
+  keepBelow-no : (m : ℕ) → test m ≡ false → keepBelow test (suc m) ≡ keepBelow test m
   unfolding keepBelow
-  below-no m t = rw (pick-false (test m) (m ∷ []) [] t, append-nil)
+  keepBelow-no m t = rw (pick-false (test m) (m ∷ []) [] t, append-nil)
 
-  pub below-start : (out : List ℕ) → take 0 out ≡ keepBelow test 0
+  pub keepBelow-start : (out : List ℕ) → take 0 out ≡ keepBelow test 0
   unfolding keepBelow
-  below-start out = refl
+  keepBelow-start out = refl
 
-  pub below-pass : (out : List ℕ) (m w : ℕ) → w < length out → test m ≡ true → take w out ≡ keepBelow test m → take (w + 1) (set out w m) ≡ keepBelow test (m + 1)
-  below-pass out m w b t q = rw (push-more out w m b, add-one m, below-yes m t, q)
+  pub keepBelow-pass : (out : List ℕ) (m w : ℕ) → w < length out → test m ≡ true → take w out ≡ keepBelow test m → take (w + 1) (set out w m) ≡ keepBelow test (m + 1)
+  keepBelow-pass out m w b t q = rw (push-more out w m b, add-one m, keepBelow-yes m t, q)
 
-  pub below-fail : (out : List ℕ) (m w : ℕ) → test m ≡ false → take w out ≡ keepBelow test m → take w out ≡ keepBelow test (m + 1)
-  below-fail out m w t q = rw (add-one m, below-no m t, q)
+  pub keepBelow-fail : (out : List ℕ) (m w : ℕ) → test m ≡ false → take w out ≡ keepBelow test m → take w out ≡ keepBelow test (m + 1)
+  keepBelow-fail out m w t q = rw (add-one m, keepBelow-no m t, q)
 
-  pub below-length : (m : ℕ) → length (keepBelow test m) ≤ m
+  pub keepBelow-length : (m : ℕ) → length (keepBelow test m) ≤ m
   unfolding keepBelow
-  below-length zero = omega arith
-  below-length (suc m) =
+  keepBelow-length zero = omega arith
+  keepBelow-length (suc m) =
       ⊎-elim
-      (λ t. rw (below-yes m t, length-append) (omega (arith, below-length m)))
-      (λ t. rw (below-no m t) (omega (arith, below-length m)))
+      (λ t. rw (keepBelow-yes m t, length-append) (omega (arith, keepBelow-length m)))
+      (λ t. rw (keepBelow-no m t) (omega (arith, keepBelow-length m)))
       (true-or-false (test m))
 
   -- of an entry where m is there too: it is the last one or stands before it
   last-or-before : (m t : ℕ) → test m ≡ true → t < length (keepBelow test (suc m)) → (t ≡ length (keepBelow test m)) ⊎ (t < length (keepBelow test m))
-  last-or-before m t y h = let e = ap length (below-yes m y) ∙ length-append (keepBelow test m) (m ∷ []) in eq-or-lt-of-le (omega arith)
+  last-or-before m t y h = let e = ap length (keepBelow-yes m y) ∙ length-append (keepBelow test m) (m ∷ []) in eq-or-lt-of-le (omega arith)
 
   -- a number below m that passes is there
-  pub below-has : (m j : ℕ) → j < m → test j ≡ true → (t : ℕ) × (t < length (keepBelow test m)) × (getD (keepBelow test m) t 0 ≡ j)
-  below-has zero j h p = absurd (not-suc-le-zero h)
-  below-has (suc m) j h p =
+  pub keepBelow-has : (m j : ℕ) → j < m → test j ≡ true → (t : ℕ) × (t < length (keepBelow test m)) × (getD (keepBelow test m) t 0 ≡ j)
+  keepBelow-has zero j h p = absurd (not-suc-le-zero h)
+  keepBelow-has (suc m) j h p =
       let old = keepBelow test m in
       ⊎-elim
-      (λ e. rw (below-yes m (rw e at p)) (length old, appended (length old) (omega arith), getD-append-seam old m [] 0 ∙ sym e))
+      (λ e. rw (keepBelow-yes m (rw e at p)) (length old, appended (length old) (omega arith), getD-append-seam old m [] 0 ∙ sym e))
       (λ l.
-      let r = below-has m j l p in
+      let r = keepBelow-has m j l p in
       ⊎-elim
-      (λ y. rw (below-yes m y) (r .0, appended (r .0) (le-of-lt (r .1)), List·getD-append old (m ∷ []) 0 (r .0) (r .1) ∙ r .2))
-      (λ n. rw (below-no m n) r)
+      (λ y. rw (keepBelow-yes m y) (r .0, appended (r .0) (le-of-lt (r .1)), List·getD-append old (m ∷ []) 0 (r .0) (r .1) ∙ r .2))
+      (λ n. rw (keepBelow-no m n) r)
       (true-or-false (test m)))
       (eq-or-lt-of-le (le-of-suc-le-suc h))
     where
@@ -93,31 +93,62 @@ module _ (test : ℕ → Bool) where
       appended t l = rw length-append (omega arith)
 
   -- what is there is a number below m that passes
-  pub below-passes : (m t : ℕ) → t < length (keepBelow test m) → (getD (keepBelow test m) t 0 < m) × (test (getD (keepBelow test m) t 0) ≡ true)
-  below-passes zero t h = absurd (omega (arith, below-length 0))
-  below-passes (suc m) t h =
+  pub keepBelow-passes : (m t : ℕ) → t < length (keepBelow test m) → (getD (keepBelow test m) t 0 < m) × (test (getD (keepBelow test m) t 0) ≡ true)
+  keepBelow-passes zero t h = absurd (omega (arith, keepBelow-length 0))
+  keepBelow-passes (suc m) t h =
       let old = keepBelow test m in
       ⊎-elim
       (λ y. ⊎-elim
-      (λ e. rw (below-yes m y, getD-at old m [] 0 t (sym e)) (le-refl (suc m), y))
-      (λ l. let r = below-passes m t l in rw (below-yes m y, List·getD-append old (m ∷ []) 0 t l) (le-step (r .0), r .1))
+      (λ e. rw (keepBelow-yes m y, getD-at old m [] 0 t (sym e)) (le-refl (suc m), y))
+      (λ l. let r = keepBelow-passes m t l in rw (keepBelow-yes m y, List·getD-append old (m ∷ []) 0 t l) (le-step (r .0), r .1))
       (last-or-before m t y h))
-      (λ n. let r = below-passes m t (rw (below-no m n) at h) in rw (below-no m n) (le-step (r .0), r .1))
+      (λ n. let r = keepBelow-passes m t (rw (keepBelow-no m n) at h) in rw (keepBelow-no m n) (le-step (r .0), r .1))
       (true-or-false (test m))
 
   -- and they ascend
-  pub below-ascends : (m t v : ℕ) → t < v → v < length (keepBelow test m) → getD (keepBelow test m) t 0 < getD (keepBelow test m) v 0
-  below-ascends zero t v l h = absurd (omega (arith, below-length 0))
-  below-ascends (suc m) t v l h =
+  pub keepBelow-ascends : (m t v : ℕ) → t < v → v < length (keepBelow test m) → getD (keepBelow test m) t 0 < getD (keepBelow test m) v 0
+  keepBelow-ascends zero t v l h = absurd (omega (arith, keepBelow-length 0))
+  keepBelow-ascends (suc m) t v l h =
       let old = keepBelow test m in
       ⊎-elim
       (λ y. ⊎-elim
       (λ e.
       let b : t < length old = omega arith in
-      rw (below-yes m y, getD-at old m [] 0 v (sym e), List·getD-append old (m ∷ []) 0 t b) (below-passes m t b .0))
+      rw (keepBelow-yes m y, getD-at old m [] 0 v (sym e), List·getD-append old (m ∷ []) 0 t b) (keepBelow-passes m t b .0))
       (λ k.
       let b : t < length old = omega arith in
-      rw (below-yes m y, List·getD-append old (m ∷ []) 0 v k, List·getD-append old (m ∷ []) 0 t b) (below-ascends m t v l k))
+      rw (keepBelow-yes m y, List·getD-append old (m ∷ []) 0 v k, List·getD-append old (m ∷ []) 0 t b) (keepBelow-ascends m t v l k))
       (last-or-before m v y h))
-      (λ n. rw (below-no m n) (below-ascends m t v l (rw (below-no m n) at h)))
+      (λ n. rw (keepBelow-no m n) (keepBelow-ascends m t v l (rw (keepBelow-no m n) at h)))
       (true-or-false (test m))
+
+-- ---- tests that agree, and a test and its contrary
+
+pub keep-ext : (f g : ℕ → Bool) (l : List ℕ) → ((x : ℕ) → f x ≡ g x) → keep f l ≡ keep g l
+unfolding keep
+keep-ext f g [] e = refl
+keep-ext f g (x ∷ l) e = rw (e x, keep-ext f g l e)
+
+pub keepBelow-ext : (f g : ℕ → Bool) (m : ℕ) → ((j : ℕ) → j < m → f j ≡ g j) → keepBelow f m ≡ keepBelow g m
+unfolding keepBelow
+keepBelow-ext f g zero e = refl
+keepBelow-ext f g (suc m) e = rw (e m (le-refl (suc m)), keepBelow-ext f g m (λ j h. e j (le-step h)))
+
+-- each number below m passes or not
+pub keepBelow-split : (test : ℕ → Bool) (m : ℕ) → length (keepBelow test m) + length (keepBelow (λ j. not (test j)) m) ≡ m
+unfolding keepBelow
+keepBelow-split test zero = refl
+keepBelow-split test (suc m) =
+    let i = keepBelow-split test m in
+    let old = keepBelow test m in
+    let others = keepBelow (λ j. not (test j)) m in
+    ⊎-elim
+    (λ y.
+    let a = ap length (keepBelow-yes test m y) ∙ length-append old (m ∷ []) in
+    let b = ap length (keepBelow-no (λ j. not (test j)) m (ap not y)) in
+    omega arith)
+    (λ n.
+    let a = ap length (keepBelow-no test m n) in
+    let b = ap length (keepBelow-yes (λ j. not (test j)) m (ap not n)) ∙ length-append others (m ∷ []) in
+    omega arith)
+    (true-or-false (test m))

@@ -3,9 +3,12 @@ pub mod Computed
 pub mod Iter
 pub mod While
 pub mod Choice
-pub mod Any
+pub mod AnyBelow
+pub mod Lowest
 pub mod Fold
 pub mod Values
 pub mod Each
+pub mod Changed
 pub mod Keep
 pub mod EachOnce
+pub mod Rising

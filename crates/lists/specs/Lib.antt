@@ -1,9 +1,11 @@
 pub mod Iter
 pub mod While
 pub mod Choice
-pub mod Any
+pub mod AnyBelow
+pub mod Lowest
 pub mod Entry
 pub mod Values
 pub mod Each
+pub mod Changed
 pub mod Keep
 pub mod EachOnce

@@ -4,8 +4,8 @@ use mathlib.Core.Path.{_≡_, ap, sym, _∙_}
 use Prim.Native.Nat.{ℕ, _%_}
 use native.Mathlib.Omega.{arith}
 use borrow.Author.Needs.{needs}
-use Rattle.field.specs.Field.{inv}
-use Rattle.field.proofs.Product.{mod32, inv-mod, inv-zero}
+use Rattle.field.specs.Field.{inverse}
+use Rattle.field.proofs.Product.{mod32, inverse-mod, inverse-zero}
 use Rattle.field.proofs.Logarithms.{exps, logs, logAt-lt, inverse-read}
 use Rattle.field.proofs.gf.inv.Statement.{statement}
 use Rattle.field.proofs.gf.inv.Tie as tie
@@ -14,7 +14,7 @@ cast-x : tie.Need-cast-x
 cast-x c = search needs
 
 returns : tie.Need-returns
-returns c = let a = c .before .args .a in sym (sym (inv-mod a) ∙ ap inv (c .if1 .taken) ∙ inv-zero)
+returns c = let a = c .before .args .a in sym (sym (inverse-mod a) ∙ ap inverse (c .if1 .taken) ∙ inverse-zero)
 
 array-read-i : tie.Need-array-read-i
 array-read-i c = search needs
@@ -32,7 +32,7 @@ array-read-result c = search needs
 
 returns-2 : tie.Need-returns-2
 unfolding exps logs
-returns-2 c = let a = c .before .args .a in inverse-read (a % 32) (mod32 a) (c .if1 .left) ∙ inv-mod a
+returns-2 c = let a = c .before .args .a in inverse-read (a % 32) (mod32 a) (c .if1 .left) ∙ inverse-mod a
 
 pub inv-spec : {M : Type 1} → statement M
 inv-spec =

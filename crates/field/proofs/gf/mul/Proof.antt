@@ -8,8 +8,8 @@ use borrow.Author.Needs.{needs}
 use borrow.Author.Tests.{eqb-true, eqb-false}
 use lib.Dec.{eqb}
 use Rattle.lists.proofs.Cases.{either, neither}
-use Rattle.field.specs.Field.{mul}
-use Rattle.field.proofs.Product.{mod32, mul-mod, mul-vanishes}
+use Rattle.field.specs.Field.{product}
+use Rattle.field.proofs.Product.{mod32, product-mod, product-vanishes}
 use Rattle.field.proofs.Logarithms.{exps, logs, logAt-lt, product-read}
 use Rattle.field.proofs.gf.mul.Statement.{statement}
 use Rattle.field.proofs.gf.mul.Tie as tie
@@ -24,7 +24,7 @@ returns : tie.Need-returns
 returns c =
     let a = c .before .args .a in
     let b = c .before .args .b in
-    sym (mul-vanishes a b (⊎-elim (λ t. inl (eqb-true (a % 32) 0 t)) (λ t. inr (eqb-true (b % 32) 0 t)) (either (eqb (a % 32) 0) (eqb (b % 32) 0) (c .if1 .taken))))
+    sym (product-vanishes a b (⊎-elim (λ t. inl (eqb-true (a % 32) 0 t)) (λ t. inr (eqb-true (b % 32) 0 t)) (either (eqb (a % 32) 0) (eqb (b % 32) 0) (c .if1 .taken))))
 
 array-read-i : tie.Need-array-read-i
 array-read-i c = search needs
@@ -60,7 +60,7 @@ returns-2 c =
     let a = c .before .args .a in
     let b = c .before .args .b in
     let n = neither (eqb (a % 32) 0) (eqb (b % 32) 0) (c .if1 .left) in
-    product-read (a % 32) (b % 32) (mod32 a) (mod32 b) (eqb-false (a % 32) 0 (n .0)) (eqb-false (b % 32) 0 (n .1)) ∙ mul-mod a b
+    product-read (a % 32) (b % 32) (mod32 a) (mod32 b) (eqb-false (a % 32) 0 (n .0)) (eqb-false (b % 32) 0 (n .1)) ∙ product-mod a b
 
 pub mul-spec : {M : Type 1} → statement M
 mul-spec =
