@@ -13,7 +13,8 @@ use Rattle.lists.specs.Choice.{pick}
 use Rattle.lists.specs.EachOnce.{EachOnce, outside, repeated, eachOnce}
 use Rattle.lists.proofs.Cases.{same-or-not, less-or-not, neither, true-or-false}
 use Rattle.lists.proofs.Choice.{pick-same, pick-other}
-use Rattle.lists.proofs.AnyBelow.{anyBelow-not, anyBelow-none, anyBelow-some}
+use Rattle.lists.proofs.AnyBelow.{anyBelow-not, anyBelow-none}
+use Rattle.lists.proofs.Among.{among-or-not}
 
 -- ---- the pigeonhole step
 
@@ -52,14 +53,6 @@ pigeonhole (suc n) f a b = pigeonhole n g inside distinct
         go (inr k) (inr k′) = b t v (omega arith) (omega arith) (sym (off t k) ∙ q ∙ off v k′)
 
 -- ---- each position is there
-
--- whether j is one of f 0, .., f (n - 1)
-pub among-or-not : (n : ℕ) (f : ℕ → ℕ) (j : ℕ) → ((t : ℕ) × (t < n) × (f t ≡ j)) ⊎ ((t : ℕ) → t < n → f t ≢ j)
-among-or-not n f j =
-    ⊎-elim
-    (λ e. let r = anyBelow-some n (λ t. eqb (f t) j) e in inl (r .0, r .1, eqb-true (f (r .0)) j (r .2)))
-    (λ e. inr (λ t h. eqb-false (f t) j (anyBelow-not n t (λ t. eqb (f t) j) e h)))
-    (true-or-false (anyBelow n (λ t. eqb (f t) j)))
 
 pub eachOnce-has : (n : ℕ) (f : ℕ → ℕ) → EachOnce n f → (j : ℕ) → j < n → (t : ℕ) × (t < n) × (f t ≡ j)
 eachOnce-has n f w j h = go (among-or-not n f j)

@@ -43,13 +43,17 @@ module _ (test : ℕ → Bool) (l out : List ℕ) (j w x : ℕ) (h : j < length 
 -- ---- of the numbers below m
 
 module _ (test : ℕ → Bool) where
-  keepBelow-yes : (m : ℕ) → test m ≡ true → keepBelow test (suc m) ≡ keepBelow test m ++ m ∷ []
+  pub keepBelow-yes : (m : ℕ) → test m ≡ true → keepBelow test (suc m) ≡ keepBelow test m ++ m ∷ []
   unfolding keepBelow
   keepBelow-yes m t = rw (pick-true (test m) (m ∷ []) [] t)
 
-  keepBelow-no : (m : ℕ) → test m ≡ false → keepBelow test (suc m) ≡ keepBelow test m
+  pub keepBelow-no : (m : ℕ) → test m ≡ false → keepBelow test (suc m) ≡ keepBelow test m
   unfolding keepBelow
   keepBelow-no m t = rw (pick-false (test m) (m ∷ []) [] t, append-nil)
+
+  pub keepBelow-empty : length (keepBelow test 0) ≡ 0
+  unfolding keepBelow
+  keepBelow-empty = refl
 
   pub keepBelow-start : (out : List ℕ) → take 0 out ≡ keepBelow test 0
   unfolding keepBelow

@@ -10,5 +10,6 @@ pub mod Values
 pub mod Each
 pub mod Changed
 pub mod Keep
+pub mod Among
 pub mod EachOnce
 pub mod Rising

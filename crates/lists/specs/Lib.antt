@@ -3,6 +3,7 @@ pub mod While
 pub mod Choice
 pub mod AnyBelow
 pub mod Lowest
+pub mod Among
 pub mod Entry
 pub mod Values
 pub mod Each
