@@ -3,7 +3,8 @@
 //!
 //! The copy goes to cargo's output folder and is never committed. Its arithmetic is the original's:
 //! the replacements open private items and make the text fit to be included. Where the original is
-//! not as expected, the build stops and says what did not fit.
+//! not as expected, the build stops and says what did not fit. The SHA-256 of the source is checked
+//! by compare/run; the exact replacements hold also without it.
 
 use std::path::{Path, PathBuf};
 use std::{env, fs};

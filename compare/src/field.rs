@@ -2,16 +2,17 @@
 //! original's `Gf::mul`, `Gf::inv` and `mix`.
 
 use crate::abi;
+use crate::guarded::Guarded;
 use crate::oracle::{GF, mix};
 use crate::random::Random;
-use crate::report::{Case, Tally, Whose};
-use crate::speed::race;
+use crate::report::{Case, HeldTo, Tally};
+use crate::speed::time_both;
 use std::fmt::Write;
 use std::hint::black_box;
 
-/// What stands in an output part beforehand. Each call is tried with both, so that a part that is
-/// written where it must not be, or left where it must be written, shows with one of them. Both are
-/// above 31, so neither is an element.
+/// What stands in an output part beforehand, and in the entries around every part. Each call is
+/// tried with both, so that an entry that is written where it must not be, or left where it must be
+/// written, shows with one of them. Both are above 31, so neither is an element.
 const BEFORE: [u8; 2] = [170, 85];
 const BEFORE_DRAWS: [u64; 2] = [0xAAAA_AAAA_AAAA_AAAA, 0x5555_5555_5555_5555];
 
@@ -32,6 +33,9 @@ const RUN: usize = 1_000;
 
 /// A run that is cut into calls of lengths 0, 1, 2 and so on has so many calls.
 const CUTS: usize = 45;
+
+/// From the seeds that are no random ones also so many draws in one call.
+const LONG_RUNS: [usize; 3] = [2_047, 4_096, 65_537];
 
 /// All comparisons of this layer; gives the differences.
 pub fn compare() -> u64 {
@@ -55,14 +59,15 @@ fn compare_mul() -> u64 {
     for a in 0..=255 {
         for b in 0..=255 {
             for before in BEFORE {
-                let (whose, number, product) = match mul_number(a, b) {
-                    0 => (Whose::Rust, 0, GF.mul(a, b)),
-                    number => (Whose::Document, number, before),
+                let (held_to, number, product) = match mul_number(a, b) {
+                    0 => (HeldTo::Rust, 0, GF.mul(a, b)),
+                    number => (HeldTo::Document, number, before),
                 };
-                let mut part = before;
-                let mut case = Case::held_to(whose);
-                case.value("number", abi::mul(a, b, &mut part), number);
-                case.value("product", part, product);
+                let mut part = Guarded::new(&[before], before);
+                let mut case = Case::held_to(held_to);
+                case.value("number", abi::mul(a, b, part.lend_one()), number);
+                case.value("product", part.part()[0], product);
+                part.compare_guards(&mut case, "product");
                 tally.count(case, || {
                     format!("mul({a}, {b}) with {before} in the product")
                 });
@@ -77,21 +82,23 @@ fn compare_inv() -> u64 {
     let mut tally = Tally::new("inv");
     for a in 0..=255 {
         for before in BEFORE {
-            let (whose, number, inverse) = match inv_number(a) {
-                0 => (Whose::Rust, 0, GF.inv(a)),
-                number => (Whose::Document, number, before),
+            let (held_to, number, inverse) = match inv_number(a) {
+                0 => (HeldTo::Rust, 0, GF.inv(a)),
+                number => (HeldTo::Document, number, before),
             };
-            let mut part = before;
-            let mut case = Case::held_to(whose);
-            case.value("number", abi::inv(a, &mut part), number);
-            case.value("inverse", part, inverse);
+            let mut part = Guarded::new(&[before], before);
+            let mut case = Case::held_to(held_to);
+            case.value("number", abi::inv(a, part.lend_one()), number);
+            case.value("inverse", part.part()[0], inverse);
+            part.compare_guards(&mut case, "inverse");
             tally.count(case, || format!("inv({a}) with {before} in the inverse"));
         }
     }
     tally.finish()
 }
 
-/// From every seed a run in one call, and a run cut into calls of lengths 0, 1, 2 and so on.
+/// From every seed a run in one call, and a run cut into calls of lengths 0, 1, 2 and so on; from
+/// some of them also longer runs, each in one call.
 fn compare_draws() -> u64 {
     let cuts: Vec<usize> = (0..CUTS).collect();
     let mut tally = Tally::new("draws");
@@ -99,6 +106,13 @@ fn compare_draws() -> u64 {
         for before in BEFORE_DRAWS {
             compare_run(&mut tally, seed, &[RUN], before);
             compare_run(&mut tally, seed, &cuts, before);
+        }
+    }
+    for seed in SEEDS {
+        for before in BEFORE_DRAWS {
+            for length in LONG_RUNS {
+                compare_run(&mut tally, seed, &[length], before);
+            }
         }
     }
     tally.finish()
@@ -119,19 +133,18 @@ fn compare_run(tally: &mut Tally, seed: u64, lengths: &[usize], before: u64) {
     let (mut our_state, mut state) = (seed, seed);
     for &length in lengths {
         let from = our_state;
-        // The lent slice lies within a longer one, whose entries on both sides stay as they are.
-        let mut ours = vec![before; length + 2];
-        let number = abi::draws(&mut our_state, &mut ours[1..=length]);
-        // The compiler may not go by what a slice can reach: the archive may have written past it.
-        let ours = black_box(ours);
+        let mut lent_state = Guarded::new(&[from], before);
+        let mut draws = Guarded::new(&vec![before; length], before);
+        let number = abi::draws(lent_state.lend_one(), draws.lend());
+        our_state = lent_state.part()[0];
         let expected: Vec<u64> = (0..length).map(|_| mix(&mut state)).collect();
 
-        let mut case = Case::held_to(Whose::Rust);
+        let mut case = Case::held_to(HeldTo::Rust);
         case.value("number", number, 0);
         case.value("state", our_state, state);
-        case.part("draws", &ours[1..=length], &expected);
-        case.value("entry before the draws", ours[0], before);
-        case.value("entry past the draws", ours[length + 1], before);
+        case.part("draws", draws.part(), &expected);
+        lent_state.compare_guards(&mut case, "state");
+        draws.compare_guards(&mut case, "draws");
         tally.count(case, || {
             format!(
                 "{length} draws from state {from}, with {before} in each entry, in a run of seed {seed}"
@@ -221,19 +234,19 @@ const DRAWS_TURNS: usize = 1_000;
 
 /// The speed of each call, ours beside the Rust's.
 pub fn measure() {
-    race(
+    time_both(
         "mul",
         MUL_TURNS * 32 * 32,
         || time_mul(abi::mul),
         || time_mul(rust_mul),
     );
-    race(
+    time_both(
         "inv",
         INV_TURNS * 31,
         || time_inv(abi::inv),
         || time_inv(rust_inv),
     );
-    race(
+    time_both(
         "draws",
         DRAWS_TURNS * RUN,
         || time_draws(abi::draws),

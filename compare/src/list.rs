@@ -4,7 +4,7 @@
 //! A proved program replays them where no Rust is at hand.
 
 use crate::field;
-use crate::report::{Case, Tally, Whose};
+use crate::report::{Case, HeldTo, Tally};
 use std::fs;
 
 struct List {
@@ -47,7 +47,7 @@ pub fn compare() -> u64 {
     let mut tally = Tally::new("lists");
     for list in LISTS {
         let committed = format!("crates/replay/data/{}.txt", list.layer);
-        let mut case = Case::held_to(Whose::Rust);
+        let mut case = Case::held_to(HeldTo::Rust);
         match fs::read_to_string(format!("{}/../{committed}", env!("CARGO_MANIFEST_DIR"))) {
             Ok(text) => case.part("lines", &lines(&text), &lines(&whole(list))),
             Err(e) => case.value("file", format!("not read: {e}"), "read".to_string()),

@@ -2,7 +2,7 @@
 //! does what the document says of it. What ours does instead is compared with the other calls.
 
 use crate::oracle::GF;
-use crate::report::{Case, Tally, Whose};
+use crate::report::{Case, HeldTo, Tally};
 use std::panic::{catch_unwind, set_hook, take_hook};
 
 /// What the original makes of an input.
@@ -21,8 +21,10 @@ impl std::fmt::Display for Outcome {
     }
 }
 
+type Call = fn() -> u8;
+
 /// Each input, what the document says of the original, and the call.
-const LISTED: &[(&str, Outcome, fn() -> u8)] = &[
+const LISTED: &[(&str, Outcome, Call)] = &[
     ("mul(0, 32)", Outcome::Answers(0), || GF.mul(0, 32)),
     ("mul(1, 32)", Outcome::Panics, || GF.mul(1, 32)),
     ("inv(0)", Outcome::Answers(1), || GF.inv(0)),
@@ -36,7 +38,7 @@ pub fn compare() -> u64 {
     set_hook(Box::new(|_| {}));
     for (input, said, call) in LISTED {
         let found = catch_unwind(call).map_or(Outcome::Panics, Outcome::Answers);
-        let mut case = Case::held_to(Whose::Listed);
+        let mut case = Case::held_to(HeldTo::Listed);
         case.value("here", &found, said);
         tally.count(case, || input.to_string());
     }

@@ -3,6 +3,7 @@
 
 mod abi;
 mod field;
+mod guarded;
 mod list;
 mod listed;
 mod oracle;

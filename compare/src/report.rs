@@ -5,10 +5,10 @@ use std::fmt::Display;
 /// Differences printed for one call; the rest are only counted.
 const PRINTED: u64 = 5;
 
-/// Whose answer a call is held to.
+/// What a call is held to.
 #[derive(Clone, Copy, PartialEq)]
-pub enum Whose {
-    /// The original's, where the call is not turned down.
+pub enum HeldTo {
+    /// The original's answer, where the call is not turned down.
     Rust,
     /// The number and the untouched parts that document 01 gives a call that is turned down.
     Document,
@@ -16,20 +16,20 @@ pub enum Whose {
     Listed,
 }
 
-impl Whose {
-    /// Whose answer is compared, and whose it is held to.
+impl HeldTo {
+    /// What is compared, and what it is held to.
     fn names(self) -> (&'static str, &'static str) {
         match self {
-            Whose::Rust => ("ours", "the Rust"),
-            Whose::Document => ("ours", "document 01"),
-            Whose::Listed => ("the Rust", "docs/DIFFERENCES.md"),
+            HeldTo::Rust => ("ours", "the Rust"),
+            HeldTo::Document => ("ours", "document 01"),
+            HeldTo::Listed => ("the Rust", "docs/DIFFERENCES.md"),
         }
     }
 }
 
 /// One call compared: the parts that differ, as they are and as they should be.
 pub struct Case {
-    whose: Whose,
+    held_to: HeldTo,
     /// Entries of slices that were compared.
     entries: usize,
     ours: Vec<String>,
@@ -37,9 +37,9 @@ pub struct Case {
 }
 
 impl Case {
-    pub fn held_to(whose: Whose) -> Self {
+    pub fn held_to(held_to: HeldTo) -> Self {
         Self {
-            whose,
+            held_to,
             entries: 0,
             ours: Vec::new(),
             expected: Vec::new(),
@@ -97,16 +97,16 @@ impl Tally {
     /// at once, so that nothing is lost where a later call should end the program.
     pub fn count(&mut self, case: Case, asked: impl FnOnce() -> String) {
         self.cases += 1;
-        self.turned_down += u64::from(case.whose == Whose::Document);
+        self.turned_down += u64::from(case.held_to == HeldTo::Document);
         self.entries += case.entries;
         if case.ours.is_empty() {
             return;
         }
         self.differences += 1;
         if self.differences <= PRINTED {
-            let (found, held_to) = case.whose.names();
+            let (compared, held_to) = case.held_to.names();
             println!(
-                "  {}: {found} {}; {held_to} {}",
+                "  {}: {compared} {}; {held_to} {}",
                 asked(),
                 case.ours.join(", "),
                 case.expected.join(", ")

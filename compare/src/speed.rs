@@ -7,7 +7,7 @@ const ROUNDS: usize = 20;
 
 /// Times both sides in turn, so that a slow spell of the machine meets both, and prints the ratio
 /// of their best times. `count` is how many answers one round gives.
-pub fn race(name: &str, count: usize, mut ours: impl FnMut(), mut rust: impl FnMut()) {
+pub fn time_both(name: &str, count: usize, mut ours: impl FnMut(), mut rust: impl FnMut()) {
     let (mut our_best, mut rust_best) = (f64::INFINITY, f64::INFINITY);
     for _ in 0..ROUNDS {
         our_best = our_best.min(nanoseconds(&mut ours));

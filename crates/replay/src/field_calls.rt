@@ -3,9 +3,9 @@
 ghost use mathlib.Core.Path.{_≡_};
 ghost use Prim.Native.Nat.{_+_};
 ghost use lib.ListN.{length};
-use crate::answers;
-use crate::calls::Call;
-use crate::calls::Outcome;
+use crate::cases::Call;
+use crate::cases::Outcome;
+use crate::compare;
 use field::gf;
 use field::splitmix64;
 use field::splitmix64::SplitMix64;
@@ -24,7 +24,7 @@ pub fn mul(name: &[u8], line: u64, numbers: &[u64]) -> Outcome {
         return Outcome::Misread;
     }
     let ours = gf::mul(a as u8, b as u8) as u64;
-    answers::held(name, line, Call::Mul, &numbers[0..2], ours, numbers[2])
+    compare::compare_one(name, line, Call::Mul, &numbers[0..2], ours, numbers[2])
 }
 
 // inv A INVERSE
@@ -40,7 +40,7 @@ pub fn inv(name: &[u8], line: u64, numbers: &[u64]) -> Outcome {
         return Outcome::Misread;
     }
     let ours = gf::inv(a as u8) as u64;
-    answers::held(name, line, Call::Inv, &numbers[0..1], ours, numbers[1])
+    compare::compare_one(name, line, Call::Inv, &numbers[0..1], ours, numbers[1])
 }
 
 // draws SEED COUNT D1 .. DCOUNT
@@ -57,15 +57,15 @@ pub fn draws(name: &[u8], line: u64, numbers: &[u64]) -> Outcome {
         return Outcome::Misread;
     }
     let mut ours = [0u64; 16];
-    held_draws(name, line, numbers, &mut ours[0..n])
+    compare_draws(name, line, numbers, &mut ours[0..n])
 }
 
 // As many draws as `ours` has entries, which the list has after the seed and the count.
-fn held_draws(name: &[u8], line: u64, numbers: &[u64], ours: &mut [u64]) -> Outcome
+fn compare_draws(name: &[u8], line: u64, numbers: &[u64], ours: &mut [u64]) -> Outcome
     requires { ⌜ length (now numbers) ≡ length (now ours) + 2 ⌝ }
 {
     splitmix64::draws(SplitMix64 { state: numbers[0] }, ours);
-    answers::held_all(
+    compare::compare_all(
         name,
         line,
         Call::Draws,

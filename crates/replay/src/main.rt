@@ -1,6 +1,6 @@
 // Replays fixed lists of answers against the library, and prints what differs and where. The lists stand in data/, and what a good run prints in stdout.
-mod answers;
-mod calls;
+mod cases;
+mod compare;
 mod field_calls;
 mod list;
 mod print;
@@ -10,4 +10,6 @@ mod tally;
 fn main() {
     run::replay(b"splitmix64.txt");
     run::replay(b"field.txt");
+    // Wrong on purpose. What is printed of it shows that a wrong case would be seen in the others.
+    run::replay(b"wrong.txt");
 }

@@ -1,8 +1,8 @@
 // Replays a list: reads its file, takes it line by line, and makes the call of each case.
-use crate::calls;
-use crate::calls::Call;
-use crate::calls::Named;
-use crate::calls::Outcome;
+use crate::cases;
+use crate::cases::Call;
+use crate::cases::Named;
+use crate::cases::Outcome;
 use crate::field_calls;
 use crate::list;
 use crate::list::Cursor;
@@ -57,7 +57,7 @@ fn replay_line(name: &[u8], line: u64, words: &[u8], is_ended: bool, t: Tally) -
     }
     let first = list::first_word(words);
     let end = first.at;
-    let Named::Is(call) = calls::call_named(&words[0..end]) else {
+    let Named::Is(call) = cases::call_named(&words[0..end]) else {
         return misread(name, line, words, t);
     };
     match replay_case(name, line, call, words, first) {
@@ -80,10 +80,10 @@ fn replay_case(name: &[u8], line: u64, call: Call, words: &[u8], after: Cursor) 
         return Outcome::Misread;
     }
     let n = read.count;
-    made(name, line, call, &numbers[0..n])
+    replay_call(name, line, call, &numbers[0..n])
 }
 
-fn made(name: &[u8], line: u64, call: Call, numbers: &[u64]) -> Outcome {
+fn replay_call(name: &[u8], line: u64, call: Call, numbers: &[u64]) -> Outcome {
     match call {
         Call::Mul => field_calls::mul(name, line, numbers),
         Call::Inv => field_calls::inv(name, line, numbers),

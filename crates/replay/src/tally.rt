@@ -1,7 +1,7 @@
 // Counts the cases of a list, those that differ, and the lines that are not understood. A file has fewer than 2^64 lines, so no count wraps.
-use crate::calls;
-use crate::calls::CALLS;
-use crate::calls::Call;
+use crate::cases;
+use crate::cases::CALLS;
+use crate::cases::Call;
 use crate::print;
 
 pub struct Count {
@@ -31,7 +31,7 @@ impl Tally {
 
     // `differ` is 1 where the case differs, else 0.
     pub fn with_case(mut self, call: Call, differ: u64) -> Self {
-        let k = calls::index(call);
+        let k = cases::index(call);
         let c = self.counts[k];
         self.counts[k] = Count {
             cases: more(c.cases, 1),
@@ -65,13 +65,13 @@ pub fn print_tally(name: &[u8], t: Tally) {
 
 // A call that the list does not name has no line, so a call that goes missing from a list, or comes into one, changes what is printed.
 fn print_count(name: &[u8], t: Tally, call: Call) {
-    let k = calls::index(call);
+    let k = cases::index(call);
     let c = t.counts[k];
     if c.cases == 0 {
         return;
     }
     print::about(name, b" ");
-    calls::print_name(call);
+    cases::print_name(call);
     print::text(b": ");
     print::number(c.cases);
     print::text(b" cases, ");

@@ -1,20 +1,24 @@
-// Holds our answers to the list's, and prints the first that differs.
+// Compares our answers with the list's, and prints the first that differs.
 ghost use mathlib.Core.Path.{_≡_};
-ghost use Prim.Native.Nat.{_≤_};
+ghost use lib.Dec.{eqb};
 ghost use lib.ListN.{length};
-use crate::calls;
-use crate::calls::Call;
-use crate::calls::Outcome;
+ghost use Rattle.replay.specs.Compared.{compared, ComparedAll};
+ghost use Rattle.replay.specs.FirstDifference.{FirstDifference};
+use crate::cases;
+use crate::cases::Call;
+use crate::cases::Outcome;
 use crate::print;
 
-pub fn held(
+pub fn compare_one(
     name: &[u8],
     line: u64,
     call: Call,
     arguments: &[u64],
     ours: u64,
     listed: u64,
-) -> Outcome {
+) -> Outcome
+    ensures { λ r. ⌜ r ≡ compared (eqb ours listed) ⌝ }
+{
     if ours == listed {
         return Outcome::Same;
     }
@@ -24,7 +28,7 @@ pub fn held(
 }
 
 // As many answers as the list has; `each` says what one of them is.
-pub fn held_all(
+pub fn compare_all(
     name: &[u8],
     line: u64,
     call: Call,
@@ -34,6 +38,7 @@ pub fn held_all(
     listed: &[u64],
 ) -> Outcome
     requires { ⌜ length (now ours) ≡ length (now listed) ⌝ }
+    ensures { λ r. ⌜ ComparedAll (now (ours .entry)) (now (listed .entry)) r ⌝ }
 {
     let k = first_difference(ours, listed);
     if k == ours.len() {
@@ -49,14 +54,14 @@ pub fn held_all(
 fn print_case(name: &[u8], line: u64, call: Call, arguments: &[u64]) {
     print::place(name, line);
     print::text(b": ");
-    calls::print_name(call);
+    cases::print_name(call);
     print::numbers(arguments);
 }
 
 // The length where there is none.
 fn first_difference(a: &[u64], b: &[u64]) -> usize
     requires { ⌜ length (now a) ≡ length (now b) ⌝ }
-    ensures { λ r. ⌜ r ≤ length (now (a .entry)) ⌝ }
+    ensures { λ r. ⌜ FirstDifference (now (a .entry)) (now (b .entry)) r ⌝ }
 {
     let mut i = 0;
     while i < a.len() {
