@@ -89,8 +89,7 @@ first [] b z = absurd (z refl)
 first ((true, k) ∷ ts) b z = refl
 first ((false, k) ∷ ts) b z = first ts b z
 
--- ---- the ways in which a call ends: `a` are the tests that touch nothing and d their number, `b` those before any rounds and e theirs, `c` those that the
--- work decides and f theirs
+-- ---- the classes
 
 -- a number that touches nothing is none after rounds
 apart : (k : ℕ) → touchesNothing k ≡ true → afterRounds k ≡ false
@@ -105,6 +104,9 @@ between : (k : ℕ) → beforeRounds k ≡ true → (touchesNothing k ≡ false)
 between k t =
     let b = and-parts (not (touchesNothing k)) (not (afterRounds k)) (is-true (beforeRounds k) t) in
     (not-true (touchesNothing k) (holds (not (touchesNothing k)) (b .0)), not-true (afterRounds k) (holds (not (afterRounds k)) (b .1)))
+
+-- ---- the ways in which a call ends: `a` are the tests that touch nothing and d their number, `b` those before any rounds and e theirs, `c` those that the
+-- work decides and f theirs
 
 pub stopped : (a b : List (Bool × ℕ)) → T (ofClass touchesNothing a) → {d : ℕ} → d ≡ refusal a → d ≢ 0 → (refusal (a ++ b) ≡ d) × (touchesNothing d ≡ true) × (afterRounds d ≡ false)
 stopped a b p {d} h z =

@@ -6,8 +6,8 @@ use mathlib.Core.List.{List, _++_}
 use lib.Dec.{eqb, leb}
 use lib.ListN.{length, replicate}
 
--- ---- three classes of numbers. A number that a later request adds "leaves what 4 to 9 leave, or touches nothing where it is checked before 3": it falls under
--- the third class, or is added to the first
+-- ---- three classes of numbers. A number that a later request adds "leaves what 4 to 9 leave, or touches nothing where it is checked before 3": it is one before
+-- rounds, as it stands, or is added to those that touch nothing
 
 -- "Numbers 1 to 3 touch nothing"
 abbrev pub touchesNothing : ℕ → Bool
