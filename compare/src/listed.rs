@@ -39,7 +39,7 @@ pub fn compare() -> u64 {
     for (input, said, call) in LISTED {
         let found = catch_unwind(call).map_or(Outcome::Panics, Outcome::Answers);
         let mut case = Case::held_to(HeldTo::Listed);
-        case.value("here", &found, said);
+        case.value("outcome:", &found, said);
         tally.count(case, || input.to_string());
     }
     set_hook(hook);

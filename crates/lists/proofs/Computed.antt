@@ -8,7 +8,7 @@ use native.Mathlib.Nat.{eq-or-lt-of-le, le-of-suc-le-suc, not-suc-le-zero}
 use lib.Dec.{T, eqb, eqb→eq}
 use Rattle.lists.proofs.Cases.{and-parts}
 
--- the test passes at each number allBelow-at n
+-- the test passes at each number below n
 abbrev pub allBelow : ℕ → (ℕ → Bool) → Bool
 allBelow zero test = true
 allBelow (suc n) test = test n && allBelow n test
@@ -21,7 +21,7 @@ allBelow-at (suc n) test t k h = go (allBelow-at n test (and-parts (test n) (all
     go ih (inl e) = subst (λ (x : ℕ). T (test x)) (sym e) (and-parts (test n) (allBelow n test) t .0)
     go ih (inr l) = ih l
 
--- at each pair allBelow-at n
+-- at each pair below n
 pub allBelow-at2 : (n : ℕ) (test : ℕ → ℕ → Bool) → T (allBelow n (λ a. allBelow n (test a))) → (a b : ℕ) → a < n → b < n → T (test a b)
 allBelow-at2 n test t a b ha hb = allBelow-at n (test a) (allBelow-at n (λ x. allBelow n (test x)) t a ha) b hb
 
