@@ -54,6 +54,42 @@ const REPLACEMENTS: &[Replacement] = &[
         new: "pub fn mix(s: &mut u64) -> u64 {",
         times: 1,
     },
+    Replacement {
+        purpose: "open a code's edges",
+        old: "\n    edges: Vec<(u16, u8)>,",
+        new: "\n    pub edges: Vec<(u16, u8)>,",
+        times: 1,
+    },
+    Replacement {
+        purpose: "open a code's row starts",
+        old: "\n    row: Vec<usize>,",
+        new: "\n    pub row: Vec<usize>,",
+        times: 1,
+    },
+    Replacement {
+        purpose: "open a code's lists by variable",
+        old: "\n    col: Vec<Vec<usize>>,",
+        new: "\n    pub col: Vec<Vec<usize>>,",
+        times: 1,
+    },
+    Replacement {
+        purpose: "open a code's information positions",
+        old: "\n    info: Vec<usize>,",
+        new: "\n    pub info: Vec<usize>,",
+        times: 1,
+    },
+    Replacement {
+        purpose: "open a code's parity positions",
+        old: "\n    parity: Vec<usize>,",
+        new: "\n    pub parity: Vec<usize>,",
+        times: 1,
+    },
+    Replacement {
+        purpose: "open a code's table",
+        old: "\n    a: Vec<Vec<u8>>,",
+        new: "\n    pub a: Vec<Vec<u8>>,",
+        times: 1,
+    },
 ];
 
 /// The first lines of the enum that is cut out of fec.rs, and what ends it.

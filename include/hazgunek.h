@@ -26,6 +26,69 @@ uint8_t hazgunek_inv(uint8_t a, uint8_t *inverse);
 /* SplitMix64: the next draws_len draws from *state, in order, and the state after them in *state. Nothing is turned down. */
 uint8_t hazgunek_draws(uint64_t *state, uint64_t *draws, size_t draws_len);
 
+/* Codes: n variables, m checks, and edges between them with coefficients from the field. */
+
+/* degrees[v] = the degree of variable v where e edges are spread over n variables as evenly as possible, the higher degrees first.
+ * 2: n is above 256. 3: degrees_len is not n. Both leave degrees as it was. */
+uint8_t hazgunek_even_degrees(size_t n, size_t e, size_t *degrees, size_t degrees_len);
+
+/* The lengths of the parts of a code, and of those that hazgunek_new works in. */
+#define HAZGUNEK_EDGES 512
+#define HAZGUNEK_STARTS 257
+#define HAZGUNEK_POSITIONS 256
+#define HAZGUNEK_TABLE 16384
+#define HAZGUNEK_PAIRS 65536
+
+/* The parts of a code, with room for every code that is allowed. An entry that is not used is 0. n and m are not among them: the
+ * caller keeps them. */
+struct hazgunek_code {
+    size_t edges;                        /* the number of edges */
+    size_t rank;                         /* the number of parity positions */
+    uint16_t var[HAZGUNEK_EDGES];        /* the variable of each edge, edges grouped by check */
+    uint8_t coef[HAZGUNEK_EDGES];        /* the coefficient of each edge, 1 to 31 */
+    uint16_t row[HAZGUNEK_STARTS];       /* where the edges of each check start; entry m is the number of edges */
+    uint16_t start[HAZGUNEK_STARTS];     /* where the list of each variable starts in col; entry n is the number of edges */
+    uint16_t col[HAZGUNEK_EDGES];        /* for each variable in turn, the places of its edges */
+    uint16_t order[HAZGUNEK_POSITIONS];  /* the order in which elimination takes the columns */
+    uint16_t parity[HAZGUNEK_POSITIONS]; /* the parity positions, in the order found */
+    uint16_t info[HAZGUNEK_POSITIONS];   /* the n - rank information positions, ascending */
+    uint8_t a[HAZGUNEK_TABLE];           /* row i, at i * (n - rank): the factor of each information symbol in parity symbol i */
+};
+
+/* What hazgunek_new works in. Any values may stand in it before a call. */
+struct hazgunek_new_work {
+    uint8_t chk[HAZGUNEK_PAIRS];
+    uint16_t load[HAZGUNEK_POSITIONS];
+    uint8_t own[HAZGUNEK_PAIRS];
+    uint16_t deg[HAZGUNEK_POSITIONS];
+};
+
+/* The arguments for the parts of a code, each with its length: `code` points to a struct hazgunek_code. The second form begins with
+ * the pointers to its two numbers, for a call that builds a code. */
+#define HAZGUNEK_CODE_PARTS(code) \
+    (code)->var, HAZGUNEK_EDGES, (code)->coef, HAZGUNEK_EDGES, (code)->row, HAZGUNEK_STARTS, (code)->start, HAZGUNEK_STARTS, \
+    (code)->col, HAZGUNEK_EDGES, (code)->order, HAZGUNEK_POSITIONS, (code)->parity, HAZGUNEK_POSITIONS, \
+    (code)->info, HAZGUNEK_POSITIONS, (code)->a, HAZGUNEK_TABLE
+#define HAZGUNEK_NEW_CODE(code) &(code)->edges, &(code)->rank, HAZGUNEK_CODE_PARTS(code)
+
+/* The arguments for the work parts of hazgunek_new: `work` points to a struct hazgunek_new_work. */
+#define HAZGUNEK_NEW_WORK(work) \
+    (work)->chk, HAZGUNEK_PAIRS, (work)->load, HAZGUNEK_POSITIONS, (work)->own, HAZGUNEK_PAIRS, (work)->deg, HAZGUNEK_POSITIONS
+
+/* Builds the code of n variables and m checks by progressive edge growth from seed, variable v having degrees[v] edges, and
+ * eliminates from column n - 1 down to 0. With a code and work of the structs above:
+ *
+ *     number = hazgunek_new(n, m, seed, degrees, n, HAZGUNEK_NEW_CODE(&code), HAZGUNEK_NEW_WORK(&work));
+ *
+ * 2: n or m is above 256. 3: degrees_len is not n, or another part has not its length; 2 and 3 touch nothing. 4: the degrees sum to
+ * more than 512. 5: a degree is above m. 4 and 5 leave the code as it was. The work parts are all zero after 4, 5 and 0. */
+uint8_t hazgunek_new(size_t n, size_t m, uint64_t seed, const size_t *degrees, size_t degrees_len, size_t *edges, size_t *rank,
+                     uint16_t *var, size_t var_len, uint8_t *coef, size_t coef_len, uint16_t *row, size_t row_len,
+                     uint16_t *start, size_t start_len, uint16_t *col, size_t col_len, uint16_t *order, size_t order_len,
+                     uint16_t *parity, size_t parity_len, uint16_t *info, size_t info_len, uint8_t *a, size_t a_len,
+                     uint8_t *chk, size_t chk_len, uint16_t *load, size_t load_len, uint8_t *own, size_t own_len,
+                     uint16_t *deg, size_t deg_len);
+
 #ifdef __cplusplus
 }
 #endif

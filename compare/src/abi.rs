@@ -7,6 +7,42 @@ unsafe extern "C" {
     fn hazgunek_mul(a: u8, b: u8, product: *mut u8) -> u8;
     fn hazgunek_inv(a: u8, inverse: *mut u8) -> u8;
     fn hazgunek_draws(state: *mut u64, draws: *mut u64, draws_len: usize) -> u8;
+    fn hazgunek_even_degrees(n: usize, e: usize, degrees: *mut usize, degrees_len: usize) -> u8;
+    fn hazgunek_new(
+        n: usize,
+        m: usize,
+        seed: u64,
+        degrees: *const usize,
+        degrees_len: usize,
+        edges: *mut usize,
+        rank: *mut usize,
+        var: *mut u16,
+        var_len: usize,
+        coef: *mut u8,
+        coef_len: usize,
+        row: *mut u16,
+        row_len: usize,
+        start: *mut u16,
+        start_len: usize,
+        col: *mut u16,
+        col_len: usize,
+        order: *mut u16,
+        order_len: usize,
+        parity: *mut u16,
+        parity_len: usize,
+        info: *mut u16,
+        info_len: usize,
+        a: *mut u8,
+        a_len: usize,
+        chk: *mut u8,
+        chk_len: usize,
+        load: *mut u16,
+        load_len: usize,
+        own: *mut u8,
+        own_len: usize,
+        deg: *mut u16,
+        deg_len: usize,
+    ) -> u8;
 }
 
 // What the library asks of every pointer (not null, as many elements as said, no overlap) is true
@@ -25,4 +61,61 @@ pub fn inv(a: u8, inverse: &mut u8) -> u8 {
 #[inline]
 pub fn draws(state: &mut u64, draws: &mut [u64]) -> u8 {
     unsafe { hazgunek_draws(state, draws.as_mut_ptr(), draws.len()) }
+}
+
+#[inline]
+pub fn even_degrees(n: usize, e: usize, degrees: &mut [usize]) -> u8 {
+    unsafe { hazgunek_even_degrees(n, e, degrees.as_mut_ptr(), degrees.len()) }
+}
+
+/// The parts that `new` is lent beside the degrees. Those with a length stand by the width of their
+/// entries, each kind in the order of the call.
+pub struct NewParts<'a> {
+    pub edges: &'a mut usize,
+    pub rank: &'a mut usize,
+    pub wide: [&'a mut [u16]; 9],
+    pub narrow: [&'a mut [u8]; 4],
+}
+
+#[inline]
+pub fn new(n: usize, m: usize, seed: u64, degrees: &[usize], parts: NewParts) -> u8 {
+    let [var, row, start, col, order, parity, info, load, deg] = parts.wide;
+    let [coef, a, chk, own] = parts.narrow;
+    unsafe {
+        hazgunek_new(
+            n,
+            m,
+            seed,
+            degrees.as_ptr(),
+            degrees.len(),
+            parts.edges,
+            parts.rank,
+            var.as_mut_ptr(),
+            var.len(),
+            coef.as_mut_ptr(),
+            coef.len(),
+            row.as_mut_ptr(),
+            row.len(),
+            start.as_mut_ptr(),
+            start.len(),
+            col.as_mut_ptr(),
+            col.len(),
+            order.as_mut_ptr(),
+            order.len(),
+            parity.as_mut_ptr(),
+            parity.len(),
+            info.as_mut_ptr(),
+            info.len(),
+            a.as_mut_ptr(),
+            a.len(),
+            chk.as_mut_ptr(),
+            chk.len(),
+            load.as_mut_ptr(),
+            load.len(),
+            own.as_mut_ptr(),
+            own.len(),
+            deg.as_mut_ptr(),
+            deg.len(),
+        )
+    }
 }

@@ -4,6 +4,7 @@
 //! A proved program replays them where no Rust is at hand.
 
 use crate::field;
+use crate::graph;
 use crate::report::{Case, HeldTo, Tally};
 use std::fs;
 
@@ -12,10 +13,16 @@ struct List {
     text: fn() -> String,
 }
 
-const LISTS: &[List] = &[List {
-    layer: "field",
-    text: field::list,
-}];
+const LISTS: &[List] = &[
+    List {
+        layer: "field",
+        text: field::list,
+    },
+    List {
+        layer: "graph",
+        text: graph::list,
+    },
+];
 
 /// A list stays below so many bytes, since the program that replays it has a part of fixed length.
 const LIMIT: usize = 60_000;

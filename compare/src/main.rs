@@ -2,8 +2,11 @@
 //! answers. `compare/run` builds and starts it.
 
 mod abi;
+mod asked;
 mod field;
+mod graph;
 mod guarded;
+mod lent;
 mod list;
 mod listed;
 mod oracle;
@@ -40,8 +43,9 @@ fn print_list(layer: &str) -> ExitCode {
 
 /// All comparisons, lowest layer first, and then the speeds.
 fn compare() -> ExitCode {
-    let differences = field::compare() + listed::compare() + list::compare();
+    let differences = field::compare() + graph::compare() + listed::compare() + list::compare();
     field::measure();
+    graph::measure();
     if differences == 0 {
         println!("no differences");
         ExitCode::SUCCESS

@@ -10,4 +10,4 @@ mod fec {
     }
 }
 
-pub use fec::nb::{GF, mix};
+pub use fec::nb::{GF, NbCode, even_degrees, mix};

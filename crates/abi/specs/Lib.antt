@@ -2,3 +2,5 @@ pub mod OneNumber
 pub mod Mul
 pub mod Inv
 pub mod Draws
+pub mod EvenDegrees
+pub mod NewCode

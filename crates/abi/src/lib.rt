@@ -5,9 +5,13 @@ ghost use Rattle.abi.specs.OneNumber.{OneNumber};
 ghost use Rattle.abi.specs.Mul.{multiplied};
 ghost use Rattle.abi.specs.Inv.{inverted};
 ghost use Rattle.abi.specs.Draws.{Draws, advanced};
+ghost use Rattle.abi.specs.EvenDegrees.{Spread, spread};
+ghost use Rattle.abi.specs.NewCode.{Exported, exported};
 use field::gf;
 use field::splitmix64;
 use field::splitmix64::SplitMix64;
+use graph::Answer;
+use graph::NewCode;
 
 #[no_mangle]
 pub extern "C" fn hazgunek_mul(a: u8, b: u8, product: &mut u8) -> u8
@@ -38,4 +42,75 @@ pub extern "C" fn hazgunek_draws(state: &mut u64, draws: &mut [u64]) -> u8
     let after = splitmix64::draws(SplitMix64 { state: *state }, draws);
     *state = after.state;
     0
+}
+
+#[no_mangle]
+pub extern "C" fn hazgunek_even_degrees(n: usize, e: usize, degrees: &mut [usize]) -> u8
+    ensures { λ r. ⌜ _≡_ {A = Spread} (record { number = r; degrees = now (degrees .exit) }) (spread n e (now (degrees .entry))) ⌝ }
+{
+    match graph::even_degrees(n, e, degrees) {
+        Answer::Done => 0,
+        Answer::Refused(number) => number,
+    }
+}
+
+#[no_mangle]
+pub extern "C" fn hazgunek_new(
+    n: usize,
+    m: usize,
+    seed: u64,
+    degrees: &[usize],
+    edges: &mut usize,
+    rank: &mut usize,
+    var: &mut [u16],
+    coef: &mut [u8],
+    row: &mut [u16],
+    start: &mut [u16],
+    col: &mut [u16],
+    order: &mut [u16],
+    parity: &mut [u16],
+    info: &mut [u16],
+    a: &mut [u8],
+    chk: &mut [u8],
+    load: &mut [u16],
+    own: &mut [u8],
+    deg: &mut [u16],
+) -> u8
+    ensures { λ r. ⌜ _≡_ {A = Exported} (record {
+      number = r;
+      edges = now (edges .exit);
+      rank = now (rank .exit);
+      code = record { var = now (var .exit); coef = now (coef .exit); row = now (row .exit); start = now (start .exit); col = now (col .exit); order = now (order .exit); parity = now (parity .exit); info = now (info .exit); a = now (a .exit) };
+      work = record { chk = now (chk .exit); load = now (load .exit); own = now (own .exit); deg = now (deg .exit) };
+    })
+        (exported n m seed (now (degrees .entry)) (now (edges .entry)) (now (rank .entry))
+        (record { var = now (var .entry); coef = now (coef .entry); row = now (row .entry); start = now (start .entry); col = now (col .entry); order = now (order .entry); parity = now (parity .entry); info = now (info .entry); a = now (a .entry) })
+        (record { chk = now (chk .entry); load = now (load .entry); own = now (own .entry); deg = now (deg .entry) })) ⌝ }
+{
+    match graph::new(
+        n,
+        m,
+        seed,
+        degrees,
+        var,
+        coef,
+        row,
+        start,
+        col,
+        order,
+        parity,
+        info,
+        a,
+        chk,
+        load,
+        own,
+        deg,
+    ) {
+        NewCode::Built(code) => {
+            *edges = code.edges;
+            *rank = code.rank;
+            0
+        }
+        NewCode::Refused(number) => number,
+    }
 }

@@ -10,9 +10,8 @@ use borrow.Author.Tests.{ne-eqb}
 use lib.Dec.{T}
 use lib.ListN.{length, getD, drop, replicate, length-append, length-replicate, List·getD-append, getD-replicate}
 use lib.Seq.{getD-append-add}
-use Rattle.lists.specs.Values.{values}
+use Rattle.lists.specs.Laid.{laid}
 use Rattle.lists.proofs.Computed.{allBelow}
-use Rattle.lists.proofs.Values.{values-length}
 use Rattle.calls.specs.Parts.{touchesNothing, beforeRounds, afterRounds, answered, worked, written, posted, padded}
 
 -- ---- document 01's numbers are in their classes
@@ -86,7 +85,7 @@ drop-replicate zero n v = ap (λ (m : ℕ). replicate m v) (let e : n ≡ n - 0 
 drop-replicate (suc k) zero v = ap (λ (m : ℕ). replicate m v) (let e : 0 ≡ 0 - suc k = omega arith in e)
 drop-replicate (suc k) (suc n) v = drop-replicate k n v ∙ ap (λ (m : ℕ). replicate m v) (let e : n - k ≡ suc n - suc k = omega arith in e)
 
--- a cleared part of which k values are filled from the front
-pub padded-fill {ℓ} : {A : Type ℓ} (n k : ℕ) (blank : A) (f : ℕ → A) (l : List A) → l ≡ values k f ++ drop k (replicate n blank) → l ≡ padded n blank (values k f)
-unfolding padded
-padded-fill n k blank f l e = e ∙ rw (drop-replicate k n blank, values-length f k)
+-- a cleared part with the answer over its front
+pub padded-laid {ℓ} : {A : Type ℓ} (n : ℕ) (blank : A) (answer : List A) → laid answer (replicate n blank) ≡ padded n blank answer
+unfolding padded laid
+padded-laid n blank answer = ap (λ (l : List _). answer ++ l) (drop-replicate (length answer) n blank)

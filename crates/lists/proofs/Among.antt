@@ -2,20 +2,19 @@
 -- Assumes nothing.
 use mathlib.Core.Path.{_≡_, refl, sym, ap, _∙_}
 use mathlib.Core.Logic.{_≢_, _⊎_, inl, inr, ⊎-elim}
-use mathlib.Core.Bool.{Bool, true, false, not, _||_}
+use mathlib.Core.Bool.{true, false, not}
 use Prim.Native.Nat.{ℕ, zero, suc, _+_, _<_}
 use native.Mathlib.Nat.{le-refl, le-step, not-suc-le-zero}
 use native.Mathlib.Omega.{arith}
 use borrow.Author.Tests.{eq-eqb, ne-eqb, eqb-true, eqb-false}
 use lib.Dec.{eqb}
-use lib.ListN.{length, length-append}
-use mathlib.Core.List.{[], _∷_}
-use Rattle.lists.specs.AnyBelow.{anyBelow}
+use lib.ListN.{length}
 use Rattle.lists.specs.Among.{among}
 use Rattle.lists.specs.Keep.{keepBelow}
 use Rattle.lists.proofs.Cases.{same-or-not, true-or-false}
 use Rattle.lists.proofs.AnyBelow.{anyBelow-hit, anyBelow-not, anyBelow-none, anyBelow-some}
-use Rattle.lists.proofs.Keep.{keepBelow-yes, keepBelow-no, keepBelow-empty, keepBelow-ext, keepBelow-split}
+use Rattle.lists.proofs.Keep.{keepBelow-no, keepBelow-empty, keepBelow-split}
+use Rattle.lists.proofs.Tally.{one-more}
 
 module _ (r : ℕ) (f : ℕ → ℕ) (j : ℕ) where
   pub among-true : among r f j ≡ true → (t : ℕ) × (t < r) × (f t ≡ j)
@@ -38,32 +37,6 @@ module _ (r : ℕ) (f : ℕ → ℕ) (j : ℕ) where
   among-or-not = ⊎-elim (λ e. inl (among-true e)) (λ e. inr (among-false e)) (true-or-false (among r f j))
 
 -- ---- counting
-
--- a test that passes one number more
-module _ (f g : ℕ → Bool) (p : ℕ) (new : f p ≡ false) (there : g p ≡ true) (same : (j : ℕ) → j ≢ p → g j ≡ f j) where
-  one-more : (n : ℕ) → p < n → length (keepBelow g n) ≡ suc (length (keepBelow f n))
-  one-more zero h = absurd (not-suc-le-zero h)
-  one-more (suc n) h =
-      ⊎-elim
-      (λ e.
-      let a = ap length (keepBelow-yes g n (ap g e ∙ there)) ∙ length-append (keepBelow g n) (n ∷ []) in
-      let b = ap length (keepBelow-no f n (ap f e ∙ new)) in
-      let c = ap length (keepBelow-ext g f n (λ j l. same j (λ q. omega arith))) in
-      omega arith)
-      (λ k.
-      let i = one-more n (omega (arith, k)) in
-      let q = same n k in
-      ⊎-elim
-      (λ y.
-      let a = ap length (keepBelow-yes g n y) ∙ length-append (keepBelow g n) (n ∷ []) in
-      let b = ap length (keepBelow-yes f n (sym q ∙ y)) ∙ length-append (keepBelow f n) (n ∷ []) in
-      omega arith)
-      (λ y.
-      let a = ap length (keepBelow-no g n y) in
-      let b = ap length (keepBelow-no f n (sym q ∙ y)) in
-      omega arith)
-      (true-or-false (g n)))
-      (same-or-not n p)
 
 pub among-count : (n r : ℕ) (f : ℕ → ℕ) → ((t : ℕ) → t < r → f t < n) → ((t v : ℕ) → t < r → v < r → f t ≡ f v → t ≡ v) → length (keepBelow (among r f) n) ≡ r
 among-count n zero f a d = none n

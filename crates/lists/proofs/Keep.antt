@@ -15,6 +15,7 @@ use Rattle.lists.specs.Keep.{keep, keepBelow}
 use Rattle.lists.proofs.Cases.{true-or-false}
 use Rattle.lists.proofs.Choice.{pick-true, pick-false}
 use Rattle.lists.proofs.Fold.{take-more}
+use Rattle.lists.proofs.Rising.{rises}
 
 -- ---- of a list
 
@@ -73,6 +74,12 @@ module _ (test : ℕ → Bool) where
       (λ t. rw (keepBelow-yes m t, length-append) (omega (arith, keepBelow-length m)))
       (λ t. rw (keepBelow-no m t) (omega (arith, keepBelow-length m)))
       (true-or-false (test m))
+
+  pub keepBelow-up : (m k : ℕ) → k ≤ m → length (keepBelow test k) ≤ length (keepBelow test m)
+  keepBelow-up m k h = rises m (λ i. length (keepBelow test i)) (λ i l. rw add-one (one i)) k m h (le-refl m)
+    where
+      one : (i : ℕ) → length (keepBelow test i) ≤ length (keepBelow test (suc i))
+      one i = ⊎-elim (λ t. rw (keepBelow-yes i t, length-append) (omega arith)) (λ t. rw (keepBelow-no i t) (omega arith)) (true-or-false (test i))
 
   -- of an entry where m is there too: it is the last one or stands before it
   last-or-before : (m t : ℕ) → test m ≡ true → t < length (keepBelow test (suc m)) → (t ≡ length (keepBelow test m)) ⊎ (t < length (keepBelow test m))

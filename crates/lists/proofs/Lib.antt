@@ -10,6 +10,11 @@ pub mod Values
 pub mod Each
 pub mod Changed
 pub mod Keep
+pub mod Tally
 pub mod Among
 pub mod EachOnce
 pub mod Rising
+pub mod Laid
+pub mod Total
+pub mod Chain
+pub mod Times

@@ -1,13 +1,13 @@
--- Laws of the list of given values: its entries, its length, and a part that a loop fills with them from the front.
+-- Laws of the list of given values: its entries and its length. A part that a loop fills with them is in Laid.antt.
 -- Assumes nothing.
 use Prim.Native.Nat.{ℕ, zero, suc, _+_, _<_, _≤_}
 use mathlib.Core.Path.{_≡_, refl, ap, sym, _∙_}
-use mathlib.Core.List.{List, [], _∷_, _++_, append-nil, append-assoc}
+use mathlib.Core.List.{List, [], _∷_, _++_, map, append-nil, append-assoc}
 use native.Mathlib.Nat.{add-zero, zero-add, add-suc, suc-add, le-of-suc-le-suc, not-suc-le-zero}
 use native.Mathlib.Numerals.{add-one}
 use native.Mathlib.Omega.{arith}
-use lib.ListN.{length, getD, set, drop, replicate}
-use lib.Seq.{drop-length, drop-cons, set-at, ext-getD}
+use lib.ListN.{length, getD, replicate}
+use lib.Seq.{ext-getD}
 use Rattle.lists.specs.Values.{values, valuesFrom}
 
 module _ {ℓ} {A : Type ℓ} (f : ℕ → A) where
@@ -24,6 +24,10 @@ module _ {ℓ} {A : Type ℓ} (f : ℕ → A) where
   from-more i zero = ap (λ (j : ℕ). f j ∷ []) (sym (add-zero i))
   from-more i (suc n) = ap (λ (l : List A). f i ∷ l) (from-more (suc i) n ∙ ap (λ (j : ℕ). valuesFrom (suc i) n f ++ f j ∷ []) (suc-add i n ∙ sym (add-suc i n)))
 
+  pub values-none : values 0 f ≡ []
+  unfolding values
+  values-none = refl
+
   pub values-length : (n : ℕ) → length (values n f) ≡ n
   unfolding values
   values-length n = from-length 0 n
@@ -32,22 +36,9 @@ module _ {ℓ} {A : Type ℓ} (f : ℕ → A) where
   unfolding values
   values-at n k d h = from-at 0 n k d h ∙ ap f (zero-add k)
 
-  values-more : (n : ℕ) → values (n + 1) f ≡ values n f ++ f n ∷ []
+  pub values-more : (n : ℕ) → values (n + 1) f ≡ values n f ++ f n ∷ []
   unfolding values
   values-more n = ap (λ (m : ℕ). valuesFrom 0 m f) (add-one n) ∙ from-more 0 n ∙ ap (λ (j : ℕ). valuesFrom 0 n f ++ f j ∷ []) (zero-add n)
-
-  -- ---- a part p that is filled from the front: k values stand in it so far
-
-  pub fill-start : (p : List A) → p ≡ values 0 f ++ drop 0 p
-  unfolding values
-  fill-start p = refl
-
-  pub fill-on : (k : ℕ) (p l : List A) → k < length p → l ≡ values k f ++ drop k p → set l k (f k) ≡ values (k + 1) f ++ drop (k + 1) p
-  fill-on k p l h e =
-      rw (e, values-more k, add-one, drop-cons p k (f k) h, set-at (values k f) (getD p k (f k)) (drop (suc k) p) (f k) k (values-length k), append-assoc)
-
-  pub fill-end : (n k : ℕ) (p l : List A) → k ≡ n → n ≡ length p → l ≡ values k f ++ drop k p → l ≡ values n f
-  fill-end n k p l q e h = h ∙ rw (q, e, drop-length, append-nil)
 
 -- two rules that agree below n
 pub values-ext {ℓ} : {A : Type ℓ} (n : ℕ) (f g : ℕ → A) (d : A) → ((k : ℕ) → k < n → f k ≡ g k) → values n f ≡ values n g
@@ -63,3 +54,27 @@ from-replicate i (suc n) v = ap (λ l. v ∷ l) (from-replicate (suc i) n v)
 pub values-replicate {ℓ} : {A : Type ℓ} (n : ℕ) (v : A) → values n (λ _. v) ≡ replicate n v
 unfolding values
 values-replicate n v = from-replicate 0 n v
+
+-- the values of a list's own entries
+pub values-own {ℓ} : {A : Type ℓ} (d : A) (l : List A) → values (length l) (λ k. getD l k d) ≡ l
+values-own d l =
+    ext-getD d (values (length l) (λ k. getD l k d)) l (values-length (λ k. getD l k d) (length l))
+    (λ k h. values-at (λ k. getD l k d) (length l) k d (omega (arith, values-length (λ k. getD l k d) (length l))))
+
+-- a function of each value
+map-from {ℓ ℓ′} : {A : Type ℓ} {B : Type ℓ′} (h : A → B) (i n : ℕ) (f : ℕ → A) → map h (valuesFrom i n f) ≡ valuesFrom i n (λ k. h (f k))
+map-from h i zero f = refl
+map-from h i (suc n) f = ap (λ l. h (f i) ∷ l) (map-from h (suc i) n f)
+
+pub map-values {ℓ ℓ′} : {A : Type ℓ} {B : Type ℓ′} (h : A → B) (n : ℕ) (f : ℕ → A) → map h (values n f) ≡ values n (λ k. h (f k))
+unfolding values
+map-values h n f = map-from h 0 n f
+
+-- n values and k more
+pub values-add {ℓ} : {A : Type ℓ} (n k : ℕ) (f : ℕ → A) → values (n + k) f ≡ values n f ++ values k (λ j. f (n + j))
+unfolding values
+values-add n zero f = ap (λ (m : ℕ). valuesFrom 0 m f) (add-zero n) ∙ sym (append-nil (valuesFrom 0 n f))
+values-add n (suc k) f =
+    ap (λ (m : ℕ). values m f) (add-suc n k ∙ sym (add-one (n + k))) ∙ values-more f (n + k)
+    ∙ ap (λ l. l ++ f (n + k) ∷ []) (values-add n k f) ∙ append-assoc (values n f) (values k (λ j. f (n + j))) (f (n + k) ∷ [])
+    ∙ ap (λ l. values n f ++ l) (sym (values-more (λ j. f (n + j)) k) ∙ ap (λ (m : ℕ). values m (λ j. f (n + j))) (add-one k))

@@ -10,3 +10,7 @@ pub mod Each
 pub mod Changed
 pub mod Keep
 pub mod EachOnce
+pub mod Laid
+pub mod Chain
+pub mod Total
+pub mod Times

@@ -1,14 +1,15 @@
 -- `field::splitmix64::draws` meets its contract. The invariant: k draws stand at the front of `out`, and the state is that after k draws.
 -- Assumes nothing.
-use mathlib.Core.Path.{_≡_, ap, sym, _∙_, subst}
-use mathlib.Core.List.{List, _++_}
+use mathlib.Core.Path.{_≡_, refl, ap, sym, _∙_, subst}
+use mathlib.Core.List.{List}
 use Prim.Native.Nat.{ℕ, _+_, _-_, _≤_}
 use native.Mathlib.Omega.{arith}
 use borrow.Author.Needs.{needs}
 use denote.Ref.{now}
-use lib.ListN.{length, drop, set, length-set}
+use lib.ListN.{length, set, length-set}
 use Rattle.lists.specs.Values.{values}
-use Rattle.lists.proofs.Values.{fill-start, fill-on, fill-end}
+use Rattle.lists.specs.Laid.{laid}
+use Rattle.lists.proofs.Laid.{fill-start, fill-on, fill-end, fill-all}
 use Rattle.field.specs.SplitMix64.{draw, after, drawn, mixed}
 use Rattle.field.specs.declared.splitmix64.Draw.{Draw}
 use Rattle.field.proofs.Generator.{after-start, after-on}
@@ -20,7 +21,7 @@ from s k = draw (after k s)
 
 abbrev Inv-loop : tie.InvT-loop
 Inv-loop out₀ state₀ k₀ k-end out state k =
-    (k ≤ k-end) × (length out ≡ length out₀) × (out ≡ values k (from state₀) ++ drop k out₀) × (state ≡ after k state₀)
+    (k ≤ k-end) × (length out ≡ length out₀) × (out ≡ laid (values k (from state₀)) out₀) × (state ≡ after k state₀)
 
 abbrev μ-loop : tie.MeasureT-loop
 μ-loop out₀ state₀ k₀ k-end out state k = k-end - k
@@ -59,7 +60,7 @@ unfolding drawn
 returns c =
     let i = c .before .loop .inv in
     let e : c .before .loop .k ≡ length (now (c .before .before .before .args .out)) = omega arith in
-    (subst (λ (n : ℕ). c .before .loop .state ≡ after n (c .before .before .before .args .s .state)) e (i .3), fill-end (from _) _ _ _ _ e (omega arith) (i .2))
+    (subst (λ (n : ℕ). c .before .loop .state ≡ after n (c .before .before .before .args .s .state)) e (i .3), fill-end (from _) _ _ (now (c .before .before .before .args .out)) _ e (i .2) ∙ fill-all (from _) _ (now (c .before .before .before .args .out)) refl)
 
 pub draws-spec : {M : Type 1} → statement M
 draws-spec =

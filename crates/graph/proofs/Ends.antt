@@ -1,0 +1,113 @@
+-- The three ends of the call new: by a number that touches nothing, by a later one, and with a code.
+-- Assumes nothing.
+use Prim.Native.Nat.{ℕ, _<_, _≤_}
+use mathlib.Core.Path.{_≡_, refl, ap, sym, _∙_}
+use mathlib.Core.Bool.{Bool, true, false}
+use mathlib.Core.List.{List, [], _∷_}
+use mathlib.Core.Logic.{_≢_}
+use native.Mathlib.Omega.{arith}
+use borrow.Author.Tests.{ltb-false}
+use lib.Dec.{eqb, ltb}
+use lib.ListN.{length, replicate}
+use Rattle.lists.specs.AnyBelow.{anyBelow}
+use Rattle.lists.specs.Entry.{nth}
+use Rattle.lists.specs.Total.{total}
+use Rattle.lists.proofs.AnyBelow.{anyBelow-not}
+use Rattle.lists.proofs.Cases.{neither}
+use Rattle.calls.specs.Refusal.{refusal, misfits, misfit}
+use Rattle.calls.specs.Parts.{touchesNothing, answered, worked, written}
+use Rattle.calls.proofs.Refusal.{pass, alike}
+use Rattle.calls.proofs.Parts.{refused, found, untouched, zeroed, kept, put}
+use Rattle.graph.specs.declared.NewCode.{NewCode}
+use Rattle.graph.specs.declared.NewCode.the-variants.{Built, Refused}
+use Rattle.graph.specs.Sizes.{tooLarge, codeLengths}
+use Rattle.graph.specs.Parts.{Parts, parts}
+use Rattle.graph.specs.Descending.{descending}
+use Rattle.graph.specs.Built.{built}
+use Rattle.graph.specs.New.{Work, workLengths, tooMany, tooHigh, refusals, numbers, New, newCode}
+use Rattle.graph.specs.Buildable.{Buildable, PartsFit, WorkFits}
+
+-- the tests that touch nothing, and those after them
+abbrev pub earlyTests : ℕ → ℕ → List ℕ → Parts → Work → List (Bool × ℕ)
+earlyTests n m degrees code work = (tooLarge n m, 2) ∷ (misfits ((length degrees, n) ∷ codeLengths code) (misfit (workLengths work)), 3) ∷ []
+
+abbrev pub lateTests : ℕ → ℕ → List ℕ → List (Bool × ℕ)
+lateTests n m degrees = (tooMany n degrees, 4) ∷ (tooHigh n m degrees, 5) ∷ []
+
+-- work parts all 0
+abbrev pub blankWork : Work → Work
+blankWork w = record { chk = replicate (length (w .chk)) 0; load = replicate (length (w .load)) 0; own = replicate (length (w .own)) 0; deg = replicate (length (w .deg)) 0 }
+
+module _ (n m seed : ℕ) (degrees : List ℕ) (code : Parts) (work : Work) (k : ℕ) where
+  pub new-stopped : refusal (refusals n m degrees code work) ≡ k → k ≢ 0 → touchesNothing k ≡ true
+      → _≡_ {A = New} (record { answer = Refused k; code = code; work = work }) (newCode n m seed degrees code work)
+  unfolding newCode
+  new-stopped e z t =
+      rw (
+        e,
+        refused k Refused (Built (numbers (built n m degrees seed) (descending n))) z,
+        kept k code (parts (built n m degrees seed) (descending n)) z,
+        untouched k 0 (work .chk) t,
+        untouched k 0 (work .load) t,
+        untouched k 0 (work .own) t,
+        untouched k 0 (work .deg) t,
+      )
+
+  pub new-turned : refusal (refusals n m degrees code work) ≡ k → k ≢ 0 → touchesNothing k ≡ false
+      → _≡_ {A = New} (record { answer = Refused k; code = code; work = blankWork work }) (newCode n m seed degrees code work)
+  unfolding newCode
+  new-turned e z t =
+      rw (
+        e,
+        refused k Refused (Built (numbers (built n m degrees seed) (descending n))) z,
+        kept k code (parts (built n m degrees seed) (descending n)) z,
+        zeroed k 0 (work .chk) t,
+        zeroed k 0 (work .load) t,
+        zeroed k 0 (work .own) t,
+        zeroed k 0 (work .deg) t,
+      )
+
+pub new-built : (n m seed : ℕ) (degrees : List ℕ) (code : Parts) (work : Work) → refusal (refusals n m degrees code work) ≡ 0
+    → _≡_ {A = New} (record { answer = Built (numbers (built n m degrees seed) (descending n)); code = parts (built n m degrees seed) (descending n); work = blankWork work })
+    (newCode n m seed degrees code work)
+unfolding newCode
+new-built n m seed degrees code work e =
+    rw (
+      e,
+      found Refused (Built (numbers (built n m degrees seed) (descending n))),
+      put code (parts (built n m degrees seed) (descending n)),
+      zeroed 0 0 (work .chk) refl,
+      zeroed 0 0 (work .load) refl,
+      zeroed 0 0 (work .own) refl,
+      zeroed 0 0 (work .deg) refl,
+    )
+
+-- ---- what the tests leave
+
+module _ (n m : ℕ) (degrees : List ℕ) (code : Parts) (work : Work) (e : refusal (earlyTests n m degrees code work) ≡ 0) where
+  sizes : (ltb 256 n ≡ false) × (ltb 256 m ≡ false)
+  sizes = neither (ltb 256 n) (ltb 256 m) (pass (tooLarge n m) 1 _ e .0)
+
+  pub new-long : length degrees ≡ n
+  new-long = alike ((length degrees, n) ∷ codeLengths code) (misfit (workLengths work)) (pass _ 2 [] (pass (tooLarge n m) 1 _ e .1) .0) .0 .0
+
+  pub new-parts : PartsFit code
+  new-parts =
+      let a = alike ((length degrees, n) ∷ codeLengths code) (misfit (workLengths work)) (pass _ 2 [] (pass (tooLarge n m) 1 _ e .1) .0) .0 in
+      record { var = a .1 .0; coef = a .1 .1 .0; row = a .1 .1 .1 .0; start = a .1 .1 .1 .1 .0; col = a .1 .1 .1 .1 .1 .0; order = a .1 .1 .1 .1 .1 .1 .0; parity = a .1 .1 .1 .1 .1 .1 .1 .0; info = a .1 .1 .1 .1 .1 .1 .1 .1 .0; a = a .1 .1 .1 .1 .1 .1 .1 .1 .1 .0 }
+
+  pub new-work : WorkFits work
+  new-work =
+      let b = alike ((length degrees, n) ∷ codeLengths code) (misfit (workLengths work)) (pass _ 2 [] (pass (tooLarge n m) 1 _ e .1) .0) .1 in
+      let a = alike (workLengths work) false b .0 in
+      record { chk = a .0; load = a .1 .0; own = a .1 .1 .0; deg = a .1 .1 .1 .0 }
+
+  pub new-buildable : refusal (lateTests n m degrees) ≡ 0 → Buildable n m degrees
+  unfolding tooMany tooHigh
+  new-buildable l = record {
+    n-small = ltb-false 256 n (sizes .0);
+    m-small = ltb-false 256 m (sizes .1);
+    long = new-long;
+    low = λ v h. ltb-false m (nth degrees v) (anyBelow-not n v (λ v. ltb m (nth degrees v)) (pass (tooHigh n m degrees) 4 [] (pass (tooMany n degrees) 3 _ l .1) .0) h);
+    sum = ltb-false 512 (total n (nth degrees)) (pass (tooMany n degrees) 3 _ l .0);
+  }

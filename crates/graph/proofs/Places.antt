@@ -1,0 +1,117 @@
+-- Laws of the places of each variable's edges: as a loop over the edges finds them, and all of them one after another.
+-- Assumes nothing.
+use Prim.Native.Nat.{ℕ, zero, suc, _+_, _<_, _≤_}
+use mathlib.Core.Path.{_≡_, refl, ap, sym, _∙_}
+use mathlib.Core.Bool.{Bool, true, false}
+use mathlib.Core.List.{List, [], _∷_, _++_}
+use mathlib.Core.Logic.{⊎-elim, _≢_}
+use native.Mathlib.Nat.{le-refl}
+use native.Mathlib.Numerals.{add-one}
+use native.Mathlib.Omega.{arith}
+use borrow.Author.Tests.{eq-eqb, ne-eqb, lt-ltb, le-ltb}
+use lib.Dec.{eqb, ltb}
+use lib.ListN.{length, length-append}
+use Rattle.lists.specs.Entry.{nth}
+use Rattle.lists.specs.Keep.{keepBelow}
+use Rattle.lists.specs.Chain.{startOf}
+use Rattle.lists.proofs.Cases.{same-or-not, less-or-not}
+use Rattle.lists.proofs.Keep.{keepBelow-yes, keepBelow-no, keepBelow-empty, keepBelow-up, keepBelow-length}
+use Rattle.lists.proofs.Chain.{start-none, start-more}
+use Rattle.graph.specs.Parts.{places}
+
+-- whether edge e is v's
+abbrev pub mine : List ℕ → ℕ → ℕ → Bool
+mine vars v e = eqb (nth vars e) v
+
+-- those of v among the first e edges
+abbrev pub found : List ℕ → ℕ → ℕ → List ℕ
+found vars v e = keepBelow (mine vars v) e
+
+module _ (vars : List ℕ) (v : ℕ) where
+  pub found-start : found vars v 0 ≡ []
+  unfolding keepBelow
+  found-start = refl
+
+  pub found-hit : (e : ℕ) → nth vars e ≡ v → found vars v e ++ e ∷ [] ≡ found vars v (e + 1)
+  found-hit e q = sym (ap (found vars v) (add-one e) ∙ keepBelow-yes (mine vars v) e (eq-eqb (nth vars e) v q))
+
+  pub found-miss : (e : ℕ) → nth vars e ≢ v → found vars v e ≡ found vars v (e + 1)
+  found-miss e q = sym (ap (found vars v) (add-one e) ∙ keepBelow-no (mine vars v) e (ne-eqb (nth vars e) v q))
+
+  pub found-end : (e : ℕ) → e ≡ length vars → found vars v e ≡ places vars v
+  unfolding places
+  found-end e q = ap (found vars v) q
+
+  -- an edge of v is one more
+  pub found-room : (e : ℕ) → e < length vars → nth vars e ≡ v → length (found vars v e) < length (places vars v)
+  unfolding places
+  found-room e h q =
+      let s = ap length (found-hit e q) in
+      let l = length-append (found vars v e) (e ∷ []) in
+      omega (arith, keepBelow-up (mine vars v) (length vars) (e + 1) (omega arith))
+
+-- ---- the variables' places one after another: as many as there are edges of variables below v
+
+module _ (vars : List ℕ) where
+  -- edges of the variables below v, among the first e
+  below : ℕ → ℕ → List ℕ
+  below v e = keepBelow (λ e. ltb (nth vars e) v) e
+
+  split : (v e : ℕ) → length (below (v + 1) e) ≡ length (below v e) + length (found vars v e)
+  unfolding below
+  split v zero = omega (arith, keepBelow-empty (λ e. ltb (nth vars e) (v + 1)), keepBelow-empty (λ e. ltb (nth vars e) v), keepBelow-empty (mine vars v))
+  split v (suc e) =
+      let x = nth vars e in
+      let i = split v e in
+      ⊎-elim
+      (λ l.
+      let a = ap length (keepBelow-yes (λ e. ltb (nth vars e) (v + 1)) e (lt-ltb x (v + 1) (omega arith))) ∙ length-append (below (v + 1) e) (e ∷ []) in
+      let b = ap length (keepBelow-yes (λ e. ltb (nth vars e) v) e (lt-ltb x v l)) ∙ length-append (below v e) (e ∷ []) in
+      let d = ap length (keepBelow-no (mine vars v) e (ne-eqb x v (λ q. omega arith))) in
+      omega arith)
+      (λ l. ⊎-elim
+      (λ q.
+      let a = ap length (keepBelow-yes (λ e. ltb (nth vars e) (v + 1)) e (lt-ltb x (v + 1) (omega arith))) ∙ length-append (below (v + 1) e) (e ∷ []) in
+      let b = ap length (keepBelow-no (λ e. ltb (nth vars e) v) e (le-ltb x v l)) in
+      let d = ap length (keepBelow-yes (mine vars v) e (eq-eqb x v q)) ∙ length-append (found vars v e) (e ∷ []) in
+      omega arith)
+      (λ k.
+      let a = ap length (keepBelow-no (λ e. ltb (nth vars e) (v + 1)) e (le-ltb x (v + 1) (omega (arith, k)))) in
+      let b = ap length (keepBelow-no (λ e. ltb (nth vars e) v) e (le-ltb x v l)) in
+      let d = ap length (keepBelow-no (mine vars v) e (ne-eqb x v k)) in
+      omega arith)
+      (same-or-not x v))
+      (less-or-not x v)
+
+  none : (e : ℕ) → length (below 0 e) ≡ 0
+  unfolding below
+  none zero = keepBelow-empty (λ e. ltb (nth vars e) 0)
+  none (suc e) = ap length (keepBelow-no (λ e. ltb (nth vars e) 0) e (le-ltb (nth vars e) 0 (omega arith))) ∙ none e
+
+  starts : (v : ℕ) → startOf (places vars) v ≡ length (below v (length vars))
+  unfolding places
+  starts zero = start-none (places vars) ∙ sym (none (length vars))
+  starts (suc v) =
+      let i = starts v in
+      let s = split v (length vars) in
+      let m = start-more (places vars) v in
+      let a = ap (startOf (places vars)) (add-one v) in
+      let b = ap (λ (k : ℕ). length (below k (length vars))) (add-one v) in
+      omega arith
+
+  -- no edge is listed twice
+  pub places-few : (v : ℕ) → startOf (places vars) v ≤ length vars
+  unfolding below
+  places-few v = omega (arith, starts v, keepBelow-length (λ e. ltb (nth vars e) v) (length vars))
+
+  -- where all variables are below n, each edge is listed
+  pub places-all : (n : ℕ) → ((e : ℕ) → e < length vars → nth vars e < n) → startOf (places vars) n ≡ length vars
+  unfolding below
+  places-all n h = starts n ∙ all (length vars) (le-refl (length vars))
+    where
+      all : (e : ℕ) → e ≤ length vars → length (below n e) ≡ e
+      all zero l = keepBelow-empty (λ e. ltb (nth vars e) n)
+      all (suc e) l =
+          let i = all e (omega arith) in
+          let a = ap length (keepBelow-yes (λ e. ltb (nth vars e) n) e (lt-ltb (nth vars e) n (h e l))) ∙ length-append (below n e) (e ∷ []) in
+          omega arith

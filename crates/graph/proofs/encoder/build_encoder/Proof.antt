@@ -1,0 +1,129 @@
+-- `graph::encoder::build_encoder` meets its contract: what stands in the parts after the elimination is the reduced state, and the positions and the table are read off it.
+-- Assumes nothing.
+use mathlib.Core.Path.{_≡_, ap, _∙_}
+use mathlib.Core.List.{List}
+use Prim.Native.Nat.{ℕ}
+use native.Mathlib.Omega.{arith}
+use borrow.Author.Needs.{needs}
+use denote.Ref.{now}
+use lib.ListN.{length}
+use Rattle.lists.specs.Entry.{nth}
+use Rattle.lists.specs.Laid.{laid}
+use Rattle.graph.specs.Graph.{Graph}
+use Rattle.graph.specs.Matrix.{matrixOf}
+use Rattle.graph.specs.Elimination.{State, reduced, infos}
+use Rattle.graph.specs.Held.{held}
+use Rattle.graph.specs.Standing.{Stands}
+use Rattle.graph.proofs.Eliminated.{Eliminated}
+use Rattle.graph.proofs.Entries.{held-small}
+use Rattle.graph.proofs.Infos.{infos-count, table-fits}
+use Rattle.graph.proofs.Reduced.{reduced-held, held-eliminated, infos-same, pivots-same, info-below, table-same}
+use Rattle.graph.proofs.encoder.build_encoder.Statement.{statement}
+use Rattle.graph.proofs.encoder.build_encoder.Tie as tie
+
+abbrev graph : tie.Start → Graph
+graph s = held (s .args .n) (s .args .m) (now (s .args .var)) (now (s .args .coef)) (now (s .args .row))
+
+abbrev state : tie.Start → State
+state s = reduced (graph s) (now (s .args .order))
+
+-- what the laws of elimination say of it
+laws : (s : tie.Start) → Eliminated (s .args .m) (s .args .n) (nth (now (s .args .order))) (matrixOf (graph s)) (s .args .n) (state s)
+laws s =
+    let w = s .pre .0 in
+    held-eliminated (s .args .n) (s .args .m) (now (s .args .var)) (now (s .args .coef)) (now (s .args .row)) (now (s .args .order)) (w .rise) (w .coefs) (w .columns)
+
+-- it stands in the parts
+standing : (c : tie.After-eliminate) → let s = c .before .before .before .before .before .before .before .before .before .before .before .before .before .before .before in
+    Stands (s .args .m) (s .args .n) (state s) (now (s .args .parity)) (c .eliminate .last .1 .1 .1 .0) (c .eliminate .last .1 .1 .1 .1 .0) (c .eliminate .result)
+standing c =
+    let s = c .before .before .before .before .before .before .before .before .before .before .before .before .before .before .before in
+    rw (reduced-held (s .args .n) (s .args .m) (now (s .args .var)) (now (s .args .coef)) (now (s .args .row)) (now (s .args .order))) at
+    (c .eliminate .ensures (matrixOf (graph s)) (c .before .before .before .before .before .matrix .ensures (s .args .n) (s .pre .0 .n-small)))
+
+-- and its information positions
+positions : (c : tie.After-info-positions) → let s = c .before .before .before .before .before .before .before .before .before .before .before .before .before .before .before .before .before .before .before .before .before .before in
+    (c .info-positions .result ≡ length (infos (s .args .n) (state s))) × (c .info-positions .last .1 .1 .1 .0 ≡ laid (infos (s .args .n) (state s)) (now (s .args .info)))
+positions c =
+    let s = c .before .before .before .before .before .before .before .before .before .before .before .before .before .before .before .before .before .before .before .before .before .before in
+    let e = infos-same (standing (c .before .before .before .before .before .before .before)) in
+    (c .info-positions .ensures .0 ∙ ap length e, c .info-positions .ensures .1 ∙ ap (λ (l : List ℕ). laid l (now (s .args .info))) e)
+
+matrix-requires : tie.Need-matrix-requires
+matrix-requires c κs =
+    let s = c .before .before .before .before .before .before .before .before .before in
+    let w = s .pre .0 in (
+      record {
+        rows = w .m-small;
+        var-long = w .var-long;
+        coef-long = w .coef-long;
+        row-long = w .row-long;
+        rising = w .rise;
+        ends = w .end;
+        variables = λ e h. omega (arith, w .vars e h, w .n-small);
+      },
+      s .pre .1 .0,
+    )
+
+eliminate-requires : tie.Need-eliminate-requires
+eliminate-requires c κs = search needs
+
+info-positions-requires : tie.Need-info-positions-requires
+info-positions-requires c κs =
+    let s = c .before .before .before .before .before .before .before .before .before .before .before .before .before .before .before .before .before .before .before .before .before in
+    let r = standing (c .before .before .before .before .before .before) .rank in
+    let h = laws s .rank-rows in
+    (s .pre .0 .n-small, s .pre .1 .2, omega (arith, s .pre .0 .m-small, s .pre .1 .1))
+
+table-requires : tie.Need-table-requires
+table-requires c κs =
+    let s = c .before .before .before .before .before .before .before .before .before .before .before .before .before .before .before .before .before .before .before .before .before .before .before .before .before .before .before in
+    let w = standing (c .before .before .before .before .before .before .before .before .before .before .before .before) in
+    let q = positions (c .before .before .before .before .before) in
+    let h = laws s .rank-rows in
+    let e = infos-count (laws s) in
+    let k = q .0 in
+    let r = w .rank in
+    let m = s .pre .0 .m-small in
+    let n = s .pre .0 .n-small in (
+      (omega arith, omega arith, c .before .before .before .before .before .before .before .before .before .before .before .before .eliminate .kept .1 .1 .1 .0 ∙ c .before .before .before .before .before .before .before .before .before .before .before .before .before .before .before .before .before .matrix .kept .1 .1 .1 .1 .0 ∙ s .pre .1 .0, c .before .before .before .before .before .info-positions .kept .1 .1 .1 .0 ∙ s .pre .1 .2, s .pre .1 .3, rw (r, k) (table-fits (laws s) n)),
+      λ t l. omega (arith, info-below w h (c .before .before .before .before .before .info-positions .result) (c .before .before .before .before .before .info-positions .last .1 .1 .1 .0) (now (s .args .info)) k (q .1) t l),
+    )
+
+same-length : tie.Need-same-length
+same-length c = search needs
+
+same-length-2 : tie.Need-same-length-2
+same-length-2 c = search needs
+
+same-length-3 : tie.Need-same-length-3
+same-length-3 c = search needs
+
+same-length-4 : tie.Need-same-length-4
+same-length-4 c = search needs
+
+returns : tie.Need-returns
+returns c =
+    let s = c .before .before .before .before .before .before .before .before .before .before .before .before .before .before .before .before .before .before .before .before .before .before .before .before .before .before .before .before .before .before in
+    let w = standing (c .before .before .before .before .before .before .before .before .before .before .before .before .before .before .before) in
+    let q = positions (c .before .before .before .before .before .before .before .before) in (
+      w .rank,
+      pivots-same w,
+      q .1,
+      c .before .before .table .ensures ∙ ap (λ (l : List ℕ). laid l (now (s .args .a)))
+          (table-same w (laws s .rank-rows) (c .before .before .before .before .before .before .before .before .info-positions .result) (c .before .before .before .before .before .before .before .before .info-positions .last .1 .1 .1 .0) (now (s .args .info)) (q .0) (q .1)),
+    )
+
+pub build-encoder-spec : {M : Type 1} → statement M
+build-encoder-spec =
+    tie.close
+    (tie.spec
+    matrix-requires
+    eliminate-requires
+    info-positions-requires
+    table-requires
+    same-length
+    same-length-2
+    same-length-3
+    same-length-4
+    returns)

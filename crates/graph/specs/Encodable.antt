@@ -1,0 +1,20 @@
+-- What elimination may be run on: parts of the right lengths with the edges of a graph, and an order of its columns. Ours; only `requires` of private functions cite it.
+-- Assumes nothing.
+use Prim.Native.Nat.{ℕ, _+_, _<_, _≤_}
+use mathlib.Core.Path.{_≡_}
+use mathlib.Core.List.{List}
+use lib.ListN.{length}
+use Rattle.lists.specs.Entry.{nth}
+
+pub record Encodable (n m : ℕ) (var coef row order : List ℕ) : Type 0 where
+  pub n-small : n ≤ 256
+  pub m-small : m ≤ 256
+  pub var-long : length var ≡ 512
+  pub coef-long : length coef ≡ 512
+  pub row-long : length row ≡ 257
+  pub order-long : length order ≡ 256
+  pub rise : (c : ℕ) → c < m → nth row c ≤ nth row (c + 1)
+  pub end : nth row m ≤ 512
+  pub vars : (e : ℕ) → e < nth row m → nth var e < n
+  pub coefs : (e : ℕ) → e < nth row m → nth coef e < 32
+  pub columns : (t : ℕ) → t < n → nth order t < n

@@ -1,0 +1,48 @@
+-- How a matrix, a state of the elimination and a code stand in parts. Ours; cited by the contracts of this crate's own functions only, by no public call.
+-- Assumes nothing.
+use mathlib.Core.Path.{_≡_}
+use mathlib.Core.List.{List}
+use Prim.Native.Nat.{ℕ, _+_, _*_, _<_, _≤_}
+use lib.Dec.{eqb}
+use lib.Bits.{bitXor}
+use lib.ListN.{length}
+use Rattle.lists.specs.Choice.{pick}
+use Rattle.lists.specs.Changed.{changed}
+use Rattle.lists.specs.Entry.{nth}
+use Rattle.lists.specs.Laid.{laid}
+use Rattle.lists.specs.Values.{values}
+use Rattle.field.specs.Field.{product}
+use Rattle.graph.specs.Matrix.{Matrix}
+use Rattle.graph.specs.Elimination.{State}
+
+-- a part holds a matrix of m rows and n columns, with rows of 256: entry (i, j) at 256 i + j
+pub record Holds (m n : ℕ) (g : Matrix) (h : List ℕ) : Type 0 where
+  pub same : (i j : ℕ) → i < m → j < n → nth h (i * 256 + j) ≡ g i j
+
+-- row r times f
+abbrev pub timesRow : ℕ → ℕ → Matrix → Matrix
+timesRow r f g = changed g r (λ j. product f (g r j))
+
+-- f times row r added to row i
+abbrev pub plusRow : ℕ → ℕ → ℕ → Matrix → Matrix
+plusRow i f r g = changed g i (λ j. bitXor (g i j) (product f (g r j)))
+
+-- row r's multiple taken from row i, if that is another, so that its entry in column c is 0
+abbrev pub rowCleared : ℕ → ℕ → ℕ → Matrix → Matrix
+rowCleared i r c g = pick (eqb i r) g (plusRow i (g i c) r g)
+
+-- a state of rank r: its matrix in h, its pivots over the front of `parity`, which was `part` before
+pub record Stands (m n : ℕ) (s : State) (part h parity : List ℕ) (r : ℕ) : Type 0 where
+  pub holds : Holds m n (s .matrix) h
+  pub rank : r ≡ s .rank
+  pub pivots : parity ≡ laid (values r (s .pivot)) part
+
+-- the parts of a graph of m checks: row starts that rise, and variables below 256
+pub record Graphed (m : ℕ) (var coef row : List ℕ) : Type 0 where
+  pub rows : m ≤ 256
+  pub var-long : length var ≡ 512
+  pub coef-long : length coef ≡ 512
+  pub row-long : length row ≡ 257
+  pub rising : (i : ℕ) → i < m → nth row i ≤ nth row (i + 1)
+  pub ends : nth row m ≤ 512
+  pub variables : (e : ℕ) → e < nth row m → nth var e < 256

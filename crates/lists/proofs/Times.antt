@@ -1,0 +1,116 @@
+-- Laws of how often a number stands in a list: in a list's parts, at an entry, and where each stands at most once.
+-- Assumes nothing.
+use mathlib.Core.Path.{_≡_, refl, sym, ap, _∙_}
+use mathlib.Core.Logic.{_≢_, ⊎-elim}
+use mathlib.Core.Bool.{Bool, true}
+use mathlib.Core.List.{List, [], _∷_, _++_}
+use Prim.Native.Nat.{ℕ, zero, suc, _+_, _<_, _≤_}
+use native.Mathlib.Nat.{not-suc-le-zero, le-of-suc-le-suc}
+use native.Mathlib.Omega.{arith}
+use lib.ListN.{length}
+use Rattle.lists.specs.Choice.{pick}
+use Rattle.lists.specs.Keep.{keep, keepBelow}
+use Rattle.lists.specs.Entry.{nth}
+use Rattle.lists.specs.Times.{times}
+use Rattle.lists.proofs.Cases.{same-or-not, true-or-false}
+use Rattle.lists.proofs.Choice.{pick-true, pick-false, pick-same, pick-other}
+use Rattle.lists.proofs.Keep.{keepBelow-yes, keepBelow-no}
+
+pub times-none : (x : ℕ) → times x [] ≡ 0
+unfolding times
+times-none x = refl
+
+pub times-same : (x y : ℕ) (l : List ℕ) → x ≡ y → times x (y ∷ l) ≡ 1 + times x l
+unfolding times
+times-same x y l e = rw (pick-same {A = ℕ} x y 1 0 e)
+
+pub times-other : (x y : ℕ) (l : List ℕ) → x ≢ y → times x (y ∷ l) ≡ times x l
+unfolding times
+times-other x y l n = rw (pick-other {A = ℕ} x y 1 0 n) (omega arith)
+
+pub times-append : (x : ℕ) (a b : List ℕ) → times x (a ++ b) ≡ times x a + times x b
+unfolding times
+times-append x [] b = omega arith
+times-append x (y ∷ a) b = let e = times-append x a b in omega arith
+
+pub times-length : (x : ℕ) (l : List ℕ) → times x l ≤ length l
+times-length x [] = let n = times-none x in omega arith
+times-length x (y ∷ l) =
+    let i = times-length x l in
+    ⊎-elim (λ e. let s = times-same x y l e in omega arith) (λ n. let o = times-other x y l n in omega arith) (same-or-not x y)
+
+-- an entry stands there
+pub times-at : (l : List ℕ) (t : ℕ) → t < length l → 0 < times (nth l t) l
+times-at [] t h = absurd (not-suc-le-zero h)
+times-at (x ∷ l) zero h = let e = times-same x x l refl in omega arith
+times-at (x ∷ l) (suc t) h =
+    let q = times-at l t (le-of-suc-le-suc h) in
+    let a = times-append (nth l t) (x ∷ []) l in
+    omega arith
+
+-- a list of which no number is an entry
+pub times-empty : (l : List ℕ) → ((x : ℕ) → times x l ≡ 0) → l ≡ []
+times-empty [] h = refl
+times-empty (y ∷ l) h = absurd (let a = times-same y y l refl in let b = h y in omega arith)
+
+-- entries are distinct where no number stands twice
+pub times-distinct : (l : List ℕ) → ((x : ℕ) → times x l ≤ 1) → (t v : ℕ) → t < length l → v < length l → nth l t ≡ nth l v → t ≡ v
+times-distinct [] o t v h k e = absurd (not-suc-le-zero h)
+times-distinct (x ∷ l) o zero zero h k e = refl
+times-distinct (x ∷ l) o zero (suc v) h k e =
+    absurd
+    (let a = times-at l v (le-of-suc-le-suc k) in
+    let b = times-same (nth l v) x l (sym e) in
+    let c = o (nth l v) in
+    omega arith)
+times-distinct (x ∷ l) o (suc t) zero h k e =
+    absurd
+    (let a = times-at l t (le-of-suc-le-suc h) in
+    let b = times-same (nth l t) x l e in
+    let c = o (nth l t) in
+    omega arith)
+times-distinct (x ∷ l) o (suc t) (suc v) h k e =
+    ap suc
+    (times-distinct l
+    (λ y. let a = times-append y (x ∷ []) l in let b = o y in omega arith)
+    t v
+    (le-of-suc-le-suc h)
+    (le-of-suc-le-suc k)
+    e)
+
+-- ---- of what passes a test
+
+pub times-keep : (x : ℕ) (test : ℕ → Bool) (l : List ℕ) → times x (keep test l) ≤ times x l
+unfolding keep
+times-keep x test [] = omega arith
+times-keep x test (y ∷ l) =
+    let i = times-keep x test l in
+    let a = times-append x (pick (test y) (y ∷ []) []) (keep test l) in
+    let n = times-none x in
+    let t = times-append x (y ∷ []) l in
+    ⊎-elim
+    (λ e. let z = ap (times x) (pick-true (test y) (y ∷ []) [] e) in omega arith)
+    (λ e. let z = ap (times x) (pick-false (test y) (y ∷ []) [] e) in omega arith)
+    (true-or-false (test y))
+
+-- what is there is a number below m that passes
+pub times-keepBelow : (test : ℕ → Bool) (m x : ℕ) → 0 < times x (keepBelow test m) → (x < m) × (test x ≡ true)
+unfolding keepBelow
+times-keepBelow test zero x h = absurd (let n = times-none x in omega arith)
+times-keepBelow test (suc m) x h =
+    let n = times-none x in
+    ⊎-elim
+    (λ e.
+    let a = ap (times x) (keepBelow-yes test m e) ∙ times-append x (keepBelow test m) (m ∷ []) in
+    ⊎-elim
+    (λ q. (omega arith, ap test q ∙ e))
+    (λ q.
+    let o = times-other x m [] q in
+    let i = times-keepBelow test m x (omega arith) in
+    (omega arith, i .1))
+    (same-or-not x m))
+    (λ e.
+    let a = ap (times x) (keepBelow-no test m e) in
+    let i = times-keepBelow test m x (omega arith) in
+    (omega arith, i .1))
+    (true-or-false (test m))
