@@ -7,20 +7,17 @@ use native.Mathlib.Nat.{mod-lt}
 use native.Mathlib.Omega.{arith}
 use lib.Dec.{lit<}
 use lib.ListN.{length, length-map}
-use Rattle.lists.specs.Iter.{iter}
 use Rattle.lists.specs.Entry.{nth}
 use Rattle.lists.specs.Values.{values}
 use Rattle.lists.specs.Chain.{chain, startOf}
 use Rattle.lists.specs.EachOnce.{EachOnce}
-use Rattle.lists.proofs.Iter.{iter-ext}
 use Rattle.lists.proofs.Values.{values-length, values-at}
 use Rattle.lists.proofs.Chain.{start-more, chain-each}
 use Rattle.calls.specs.Parts.{padded}
 use Rattle.calls.proofs.Parts.{padded-length, padded-in}
 use Rattle.field.specs.SplitMix64.{draw, after}
 use Rattle.graph.specs.Graph.{Edge, Graph, checkCount, check, edges}
-use Rattle.graph.specs.Matrix.{Matrix, matrixOf}
-use Rattle.graph.specs.Elimination.{State, visited, eliminated, reduced}
+use Rattle.graph.specs.Elimination.{reduced}
 use Rattle.graph.specs.Parts.{variables, coefficients, rowStarts}
 use Rattle.graph.specs.Held.{held}
 use Rattle.graph.specs.Coefficients.{coefficient}
@@ -29,6 +26,7 @@ use Rattle.graph.specs.Built.{built}
 use Rattle.graph.specs.Buildable.{Buildable}
 use Rattle.graph.specs.Encodable.{Encodable}
 use Rattle.graph.proofs.Held.{held-is}
+use Rattle.graph.proofs.Reduced.{reduced-order}
 use Rattle.graph.proofs.Built.{growth, grownChk, built-n, built-m, built-variables, built-coefficients, built-starts, built-count, built-row-starts, built-well, grown-few}
 
 -- ---- the order
@@ -47,11 +45,6 @@ descending-once n = record {
   inside = λ t h. omega (arith, descending-at n t h);
   distinct = λ t v h l e. omega (arith, descending-at n t h, descending-at n v l);
 }
-
--- elimination goes by the order's entries below n
-pub reduced-order : (g : Graph) (o q : List ℕ) → ((t : ℕ) → t < g .n → nth o t ≡ nth q t) → reduced g o ≡ reduced g q
-unfolding reduced eliminated
-reduced-order g o q e = iter-ext (g .n) _ _ _ (λ t h s. ap (λ (c : ℕ). visited (checkCount g) c s) (e t h))
 
 -- ---- a coefficient is 1 to 31
 

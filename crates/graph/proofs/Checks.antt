@@ -1,13 +1,13 @@
 -- The check matrix in a part, edge by edge and check by check.
 -- Assumes nothing.
-use mathlib.Core.Path.{_≡_, refl, sym, ap, ap₂, _∙_}
+use mathlib.Core.Path.{_≡_, refl, sym, ap, _∙_}
 use mathlib.Core.Logic.{_≢_, ⊎-elim}
 use mathlib.Core.List.{List, [], _∷_, _++_, foldl, foldl-append}
 use Prim.Native.Nat.{ℕ, _+_, _-_, _*_, _<_, _≤_}
 use native.Mathlib.Omega.{arith}
-use lib.Dec.{eqb, ltb}
+use lib.Dec.{ltb}
 use lib.Bits.{bitXor}
-use lib.ListN.{length, getD, set, replicate}
+use lib.ListN.{length, set, replicate}
 use lib.Seq.{getD-set-same, getD-set-other}
 use Rattle.lists.specs.Choice.{pick}
 use Rattle.lists.specs.Changed.{changed}
@@ -16,8 +16,8 @@ use Rattle.lists.specs.Values.{values}
 use Rattle.lists.proofs.Cases.{same-or-not, less-or-not}
 use Rattle.lists.proofs.Choice.{pick-same, pick-other, pick-less, pick-not-less}
 use Rattle.lists.proofs.Changed.{changed-at, changed-other}
-use Rattle.lists.proofs.Values.{values-at, values-none, values-more, values-length, values-replicate}
-use Rattle.graph.specs.Graph.{Edge, Graph, checkCount, check}
+use Rattle.lists.proofs.Values.{values-at, values-none, values-more, values-replicate}
+use Rattle.graph.specs.Graph.{Edge}
 use Rattle.graph.specs.Matrix.{Matrix, entryTurn, entry, matrixOf}
 use Rattle.graph.specs.Held.{edgesIn, held}
 use Rattle.graph.specs.Standing.{Holds}

@@ -1,7 +1,7 @@
 -- A column cleared by a row: the entries after it, and that it keeps the solutions.
 -- Assumes nothing.
 use mathlib.Core.Path.{_≡_, refl, sym, ap, ap₂, _∙_}
-use mathlib.Core.Logic.{_≢_, _⊎_, inl, inr, ⊎-elim, _↔_}
+use mathlib.Core.Logic.{_≢_, _⊎_, ⊎-elim, _↔_}
 use Prim.Native.Nat.{ℕ, _<_}
 use lib.Bits.{bitXor, xor-zero-r, xor-self}
 use Rattle.lists.proofs.Cases.{same-or-not}

@@ -1,142 +1,133 @@
--- A column cleared row by row: after k rows, those below k are cleared, and the others and the pivot's row are as they were.
+-- A column cleared row by row: some rows, and then all but the pivot's.
 -- Assumes nothing.
 use mathlib.Core.Path.{_≡_, refl, sym, ap, ap₂, _∙_}
 use mathlib.Core.Logic.{_≢_, ⊎-elim}
 use mathlib.Core.List.{List}
-use Prim.Native.Nat.{ℕ, suc, _+_, _<_, _≤_}
-use native.Mathlib.Nat.{le-refl, not-suc-le-zero}
+use Prim.Native.Nat.{ℕ, _+_, _<_, _≤_}
+use native.Mathlib.Nat.{le-refl}
 use native.Mathlib.Omega.{arith}
+use lib.Dec.{ltb}
 use lib.Bits.{bitXor, xor-zero-r}
-use Rattle.lists.specs.Iter.{iter}
+use Rattle.lists.specs.Choice.{pick}
 use Rattle.lists.specs.Changed.{changed}
-use Rattle.lists.proofs.Cases.{same-or-not}
-use Rattle.lists.proofs.Choice.{pick-same, pick-other}
+use Rattle.lists.proofs.Cases.{same-or-not, less-or-not}
+use Rattle.lists.proofs.Choice.{pick-less, pick-not-less}
 use Rattle.lists.proofs.Changed.{changed-at, changed-other}
-use Rattle.lists.proofs.Iter.{iter-more, iter-keeps}
 use Rattle.field.specs.Field.{product, inverse}
 use Rattle.field.proofs.Product.{zero-product}
 use Rattle.graph.specs.Matrix.{Matrix}
 use Rattle.graph.specs.Elimination.{scaled, cleared}
-use Rattle.graph.specs.Standing.{Holds, timesRow, plusRow, rowCleared}
+use Rattle.graph.specs.Standing.{Holds, timesRow, plusRow, rowsCleared}
 use Rattle.graph.proofs.Columns.{holds-ext}
 use Rattle.graph.proofs.Cleared.{cleared-r, cleared-other}
 
--- ---- one row
-
--- the pivot's own row stays
-rowCleared-own : (i r c : ℕ) (g : Matrix) → i ≡ r → rowCleared i r c g ≡ g
-rowCleared-own i r c g e = pick-same i r g (plusRow i (g i c) r g) e
-
-rowCleared-other : (i r c : ℕ) (g : Matrix) → i ≢ r → rowCleared i r c g ≡ plusRow i (g i c) r g
-rowCleared-other i r c g k = pick-other i r g (plusRow i (g i c) r g) k
-
--- a row with 0 in column c stays
-rowCleared-zero : (i r c : ℕ) (g : Matrix) → g i c ≡ 0 → (a j : ℕ) → g a j ≡ rowCleared i r c g a j
-rowCleared-zero i r c g z a j =
-    ⊎-elim
-    (λ e. ap (λ (t : Matrix). t a j) (sym (rowCleared-own i r c g e)))
-    (λ k. sym (ap (λ (t : Matrix). t a j) (rowCleared-other i r c g k) ∙ same))
-    (same-or-not i r)
+-- a row with 0 in column c stays as it is
+pub clear-already : {m n : ℕ} {l : List ℕ} (i r c : ℕ) (g : Matrix) → g i c ≡ 0 → Holds m n g l → Holds m n (plusRow i (g i c) r g) l
+clear-already i r c g z w =
+    holds-ext w (λ a j _ _. sym (⊎-elim
+    (λ e. ap (λ (x : ℕ → ℕ). x j) (changed-at g i f a e) ∙ none j ∙ ap (λ (x : ℕ). g x j) (sym e))
+    (λ k. ap (λ (x : ℕ → ℕ). x j) (changed-other g i f a k))
+    (same-or-not a i)))
   where
     f : ℕ → ℕ
     f j = bitXor (g i j) (product (g i c) (g r j))
 
-    none : f j ≡ g i j
-    none = ap (λ (x : ℕ). bitXor (g i j) (product x (g r j))) z ∙ ap (bitXor (g i j)) (zero-product (g r j)) ∙ xor-zero-r (g i j)
+    none : (j : ℕ) → f j ≡ g i j
+    none j = ap (λ (x : ℕ). bitXor (g i j) (product x (g r j))) z ∙ ap (bitXor (g i j)) (zero-product (g r j)) ∙ xor-zero-r (g i j)
 
-    same : changed g i f a j ≡ g a j
-    same =
-        ⊎-elim
-        (λ e. ap (λ (x : ℕ → ℕ). x j) (changed-at g i f a e) ∙ none ∙ ap (λ (x : ℕ). g x j) (sym e))
-        (λ k. ap (λ (x : ℕ → ℕ). x j) (changed-other g i f a k))
-        (same-or-not a i)
+-- ---- the rows from one number to another
 
--- ---- k rows
+module _ (from r c : ℕ) (g : Matrix) where
+  abbrev new : ℕ → ℕ → ℕ
+  new a j = bitXor (g a j) (product (g a c) (g r j))
 
-abbrev pub clearing : ℕ → ℕ → ℕ → Matrix → Matrix
-clearing r c k g = iter k (λ a t. rowCleared a r c t) g
+  rows-before : (to a j : ℕ) → a < from → rowsCleared from to r c g a j ≡ g a j
+  unfolding rowsCleared
+  rows-before to a j h = pick-less a from (g a j) (pick (ltb a to) (new a j) (g a j)) h
 
-record Rows (r c : ℕ) (g : Matrix) (k : ℕ) (t : Matrix) : Type 0 where
-  own : t r ≡ g r
-  done : (a j : ℕ) → a < k → a ≢ r → t a j ≡ bitXor (g a j) (product (g a c) (g r j))
-  rest : (a : ℕ) → k ≤ a → t a ≡ g a
+  rows-in : (to a j : ℕ) → from ≤ a → a < to → rowsCleared from to r c g a j ≡ new a j
+  unfolding rowsCleared
+  rows-in to a j h l = pick-not-less a from (g a j) (pick (ltb a to) (new a j) (g a j)) h ∙ pick-less a to (new a j) (g a j) l
 
-rows-start : (r c : ℕ) (g : Matrix) → Rows r c g 0 g
-rows-start r c g = record { own = refl; done = λ a j h. absurd (not-suc-le-zero h); rest = λ a h. refl }
+  rows-after : (to a j : ℕ) → from ≤ a → to ≤ a → rowsCleared from to r c g a j ≡ g a j
+  unfolding rowsCleared
+  rows-after to a j h l = pick-not-less a from (g a j) (pick (ltb a to) (new a j) (g a j)) h ∙ pick-not-less a to (new a j) (g a j) l
 
-rows-on : (r c : ℕ) (g : Matrix) (k : ℕ) (t : Matrix) → Rows r c g k t → Rows r c g (suc k) (rowCleared k r c t)
-rows-on r c g k t w = ⊎-elim passed turned (same-or-not k r)
-  where
-    passed : k ≡ r → Rows r c g (suc k) (rowCleared k r c t)
-    passed e = rw (rowCleared-own k r c t e) (record {
-      own = w .own;
-      done = λ a j h d. w .done a j (omega (arith, d)) d;
-      rest = λ a h. w .rest a (omega arith);
-    })
+  -- a row that is not among them
+  rows-other : (to a j : ℕ) → (from ≤ a → to ≤ a) → rowsCleared from to r c g a j ≡ g a j
+  rows-other to a j f = ⊎-elim (λ h. rows-before to a j h) (λ h. rows-after to a j h (f h)) (less-or-not a from)
 
-    turned : k ≢ r → Rows r c g (suc k) (rowCleared k r c t)
-    turned d = rw (rowCleared-other k r c t d) (record {
-      own = changed-other t k f r (λ e. d (sym e)) ∙ w .own;
-      done = λ a j h n. ⊎-elim
-          (λ e. rw e (ap (λ (x : ℕ → ℕ). x j) (changed-at t k f k refl) ∙ new j))
-          (λ q. ap (λ (x : ℕ → ℕ). x j) (changed-other t k f a q) ∙ w .done a j (omega (arith, q)) n)
-          (same-or-not a k);
-      rest = λ a h. changed-other t k f a (omega arith) ∙ w .rest a (omega arith);
-    })
+  module _ {m n : ℕ} {l : List ℕ} where
+    pub rows-start : Holds m n g l → Holds m n (rowsCleared from from r c g) l
+    rows-start w = holds-ext w (λ a j _ _. sym (rows-other from a j (λ h. h)))
+
+    -- row i is next
+    pub rows-on : (i to : ℕ) → from ≤ i → i < to → ((a : ℕ) → from ≤ a → a < to → a ≢ r)
+        → Holds m n (plusRow i (rowsCleared from i r c g i c) r (rowsCleared from i r c g)) l → Holds m n (rowsCleared from (i + 1) r c g) l
+    rows-on i to h b apart w = holds-ext w (λ a j _ _. ⊎-elim (own a j) (other a j) (same-or-not a i))
       where
+        t : Matrix
+        t = rowsCleared from i r c g
+
         f : ℕ → ℕ
-        f j = bitXor (t k j) (product (t k c) (t r j))
+        f j = bitXor (t i j) (product (t i c) (t r j))
 
-        old : (j : ℕ) → t k j ≡ g k j
-        old j = ap (λ (x : ℕ → ℕ). x j) (w .rest k (le-refl k))
+        at-r : (j : ℕ) → t r j ≡ g r j
+        at-r j = rows-other i r j (λ k. ⊎-elim (λ q. absurd (apart r k (omega arith) refl)) (λ q. q) (less-or-not r i))
 
-        new : (j : ℕ) → f j ≡ bitXor (g k j) (product (g k c) (g r j))
-        new j = ap₂ bitXor (old j) (ap₂ product (old c) (ap (λ (x : ℕ → ℕ). x j) (w .own)))
+        at-i : (j : ℕ) → t i j ≡ g i j
+        at-i j = rows-after i i j h (le-refl i)
 
--- all rows, after the pivot's row is scaled
-rows-cleared : (m r c : ℕ) (g : Matrix) (i j : ℕ) → i < m → clearing r c m (timesRow r (inverse (g r c)) g) i j ≡ cleared r c g i j
-rows-cleared m r c g i j h =
-    ⊎-elim
-    (λ e. ap (λ (a : ℕ). all a j) e ∙ ap (λ (x : ℕ → ℕ). x j) (w .own) ∙ at-r j ∙ sym (ap (λ (a : ℕ). cleared r c g a j) e ∙ cleared-r r c g j))
-    (λ k. w .done i j h k ∙ ap₂ bitXor (off i j k) (ap₂ product (off i c k) (at-r j)) ∙ sym (cleared-other r c g i j k))
-    (same-or-not i r)
-  where
-    f : ℕ → ℕ
-    f j = product (inverse (g r c)) (g r j)
+        own : (a j : ℕ) → a ≡ i → changed t i f a j ≡ rowsCleared from (i + 1) r c g a j
+        own a j e =
+            ap (λ (x : ℕ → ℕ). x j) (changed-at t i f a e)
+            ∙ ap₂ bitXor (at-i j) (ap₂ product (at-i c) (at-r j))
+            ∙ ap (λ (a : ℕ). new a j) (sym e) ∙ sym (rows-in (i + 1) a j (omega arith) (omega arith))
 
-    all : Matrix
-    all = clearing r c m (timesRow r (inverse (g r c)) g)
+        other : (a j : ℕ) → a ≢ i → changed t i f a j ≡ rowsCleared from (i + 1) r c g a j
+        other a j d =
+            ap (λ (x : ℕ → ℕ). x j) (changed-other t i f a d)
+            ∙ ⊎-elim
+            (λ q. rows-before i a j q ∙ sym (rows-before (i + 1) a j q))
+            (λ q. ⊎-elim
+            (λ k. rows-in i a j q k ∙ sym (rows-in (i + 1) a j q (omega arith)))
+            (λ k. rows-after i a j q k ∙ sym (rows-after (i + 1) a j q (omega (arith, d))))
+            (less-or-not a i))
+            (less-or-not a from)
 
-    w : Rows r c (timesRow r (inverse (g r c)) g) m all
-    w = iter-keeps (Rows r c (timesRow r (inverse (g r c)) g)) m (λ a t. rowCleared a r c t) (timesRow r (inverse (g r c)) g)
-        (rows-start r c (timesRow r (inverse (g r c)) g)) (λ k l t v. rows-on r c (timesRow r (inverse (g r c)) g) k t v)
+-- ---- all rows but the pivot's, after that is scaled
 
-    at-r : (j : ℕ) → timesRow r (inverse (g r c)) g r j ≡ scaled r c g j
-    at-r j = ap (λ (x : ℕ → ℕ). x j) (changed-at g r f r refl)
+module _ (m r c : ℕ) (g : Matrix) where
+  abbrev first : Matrix
+  first = timesRow r (inverse (g r c)) g
 
-    off : (i j : ℕ) → i ≢ r → timesRow r (inverse (g r c)) g i j ≡ g i j
-    off i j k = ap (λ (x : ℕ → ℕ). x j) (changed-other g r f i k)
+  abbrev below : Matrix
+  below = rowsCleared 0 r r c first
 
--- ---- of a part
+  first-r : (j : ℕ) → first r j ≡ scaled r c g j
+  first-r j = ap (λ (x : ℕ → ℕ). x j) (changed-at g r (λ j. product (inverse (g r c)) (g r j)) r refl)
 
-module _ {m n : ℕ} {l : List ℕ} (r c : ℕ) (g : Matrix) where
-  pub clears : (i f : ℕ) → i ≢ r → f ≡ g i c → Holds m n (plusRow i f r g) l → Holds m n (rowCleared i r c g) l
-  clears i f d e w = rw (rowCleared-other i r c g d) (rw e at w)
+  first-other : (i j : ℕ) → i ≢ r → first i j ≡ g i j
+  first-other i j k = ap (λ (x : ℕ → ℕ). x j) (changed-other g r (λ j. product (inverse (g r c)) (g r j)) i k)
 
-  pub clear-already : (i : ℕ) → g i c ≡ 0 → Holds m n g l → Holds m n (rowCleared i r c g) l
-  clear-already i z w = holds-ext w (λ a j _ _. rowCleared-zero i r c g z a j)
+  below-past : (i j : ℕ) → r ≤ i → below i j ≡ first i j
+  below-past i j h = rows-after 0 r c first r i j (omega arith) h
 
-  pub clear-own : (i : ℕ) → i ≡ r → Holds m n g l → Holds m n (rowCleared i r c g) l
-  clear-own i e w = rw (rowCleared-own i r c g e) w
+  -- what a row other than the pivot's becomes
+  turned : (i j : ℕ) → i ≢ r → bitXor (first i j) (product (first i c) (first r j)) ≡ cleared r c g i j
+  turned i j k = ap₂ bitXor (first-other i j k) (ap₂ product (first-other i c k) (first-r j)) ∙ sym (cleared-other r c g i j k)
 
-  -- i rows
+  rows-cleared : (i j : ℕ) → i < m → rowsCleared (r + 1) m r c below i j ≡ cleared r c g i j
+  rows-cleared i j h =
+      ⊎-elim
+      (λ l. rows-before (r + 1) r c below m i j (omega arith) ∙ rows-in 0 r c first r i j (omega arith) l ∙ turned i j (omega arith))
+      (λ l. ⊎-elim
+      (λ e. rows-before (r + 1) r c below m i j (omega arith) ∙ below-past i j l ∙ ap (λ (a : ℕ). first a j) e ∙ first-r j
+      ∙ sym (ap (λ (a : ℕ). cleared r c g a j) e ∙ cleared-r r c g j))
+      (λ k. rows-in (r + 1) r c below m i j (omega (arith, k)) h
+      ∙ ap₂ bitXor (below-past i j l) (ap₂ product (below-past i c l) (below-past r j (le-refl r))) ∙ turned i j k)
+      (same-or-not i r))
+      (less-or-not i r)
 
-  pub clearing-start : Holds m n g l → Holds m n (clearing r c 0 g) l
-  unfolding iter
-  clearing-start w = w
-
-  pub clearing-on : (i : ℕ) → Holds m n (rowCleared i r c (clearing r c i g)) l → Holds m n (clearing r c (i + 1) g) l
-  clearing-on i w = rw (iter-more i (λ a t. rowCleared a r c t) g) w
-
-  pub clearing-end : (i v : ℕ) → i ≡ m → v ≡ inverse (g r c) → Holds m n (clearing r c i (timesRow r v g)) l → Holds m n (cleared r c g) l
-  clearing-end i v e d w = holds-ext (rw (e, d) at w) (λ i j a _. rows-cleared m r c g i j a)
+  pub rows-end : {n : ℕ} {l : List ℕ} (v : ℕ) → v ≡ inverse (g r c) → Holds m n (rowsCleared (r + 1) m r c (rowsCleared 0 r r c (timesRow r v g))) l → Holds m n (cleared r c g) l
+  rows-end v e w = holds-ext (rw e at w) (λ i j a _. rows-cleared i j a)

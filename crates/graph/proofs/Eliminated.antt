@@ -1,17 +1,15 @@
 -- What elimination gives, for every matrix of field elements and every order of its columns: the same solutions, a unit vector in each pivot column,
 -- and 0 below the rank in each column visited.
 -- Assumes nothing.
-use mathlib.Core.Path.{_≡_, refl, sym, ap, _∙_}
-use mathlib.Core.Logic.{_≢_, _⊎_, inl, inr, ⊎-elim, _↔_}
+use mathlib.Core.Path.{_≡_, ap, _∙_}
+use mathlib.Core.Logic.{_≢_, _⊎_, ⊎-elim, _↔_}
 use mathlib.Core.Bool.{not}
-use Prim.Native.Nat.{ℕ, zero, suc, _-_, _<_, _≤_}
-use native.Mathlib.Nat.{le-refl, le-step, not-suc-le-zero}
+use Prim.Native.Nat.{ℕ, suc, _-_, _<_, _≤_}
+use native.Mathlib.Nat.{le-refl, not-suc-le-zero}
 use native.Mathlib.Omega.{arith}
 use borrow.Author.Tests.{eqb-true, eqb-false, not-true, not-false}
 use lib.Dec.{eqb}
-use Rattle.lists.specs.Iter.{iter}
 use Rattle.lists.specs.Changed.{changed}
-use Rattle.lists.specs.Lowest.{lowest}
 use Rattle.lists.proofs.Cases.{same-or-not, less-or-not}
 use Rattle.lists.proofs.Choice.{pick-less, pick-not-less}
 use Rattle.lists.proofs.Changed.{changed-at, changed-other}

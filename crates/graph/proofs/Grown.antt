@@ -11,13 +11,12 @@ use Rattle.lists.specs.Total.{total}
 use Rattle.lists.specs.Times.{times}
 use Rattle.lists.proofs.Cases.{same-or-not}
 use Rattle.lists.proofs.Keep.{keepBelow-length}
-use Rattle.lists.proofs.Total.{total-ext}
-use Rattle.lists.proofs.Times.{times-at, times-empty, times-distinct}
+use Rattle.lists.proofs.Total.{total-ext, total-swap}
+use Rattle.lists.proofs.Times.{times-at, times-empty, times-distinct, total-times}
 use Rattle.graph.specs.Adjacency.{Adjacency, empty}
 use Rattle.graph.specs.Growth.{grown}
 use Rattle.graph.specs.Served.{Good, sooner, Begun}
 use Rattle.graph.proofs.Order.{grown-begun, soon-all}
-use Rattle.graph.proofs.Totals.{total-swap, total-times}
 
 -- m checks, and n variables of the given degrees
 pub record GrownWell (m n : ℕ) (degs : ℕ → ℕ) (g : Adjacency) : Type 0 where

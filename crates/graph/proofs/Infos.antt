@@ -2,8 +2,8 @@
 -- Assumes nothing.
 use mathlib.Core.Path.{_≡_, sym, ap, _∙_}
 use mathlib.Core.Logic.{_≢_, _⊎_, inl, inr, ⊎-elim}
-use mathlib.Core.Bool.{Bool, true, false, not}
-use Prim.Native.Nat.{ℕ, suc, _+_, _-_, _*_, _<_, _≤_}
+use mathlib.Core.Bool.{Bool, not}
+use Prim.Native.Nat.{ℕ, _+_, _-_, _*_, _<_, _≤_}
 use native.Mathlib.Nat.{mul-comm, mul-add, mul-le-mul-left, mul-le-mul-right}
 use native.Mathlib.Omega.{arith}
 use borrow.Author.Tests.{not-true}
@@ -12,7 +12,7 @@ use Rattle.lists.specs.Among.{among}
 use Rattle.lists.specs.Entry.{nth}
 use Rattle.lists.proofs.Cases.{same-or-not, less-or-not, true-or-false}
 use Rattle.lists.proofs.Among.{among-true, among-false, others-count}
-use Rattle.lists.proofs.Keep.{keepBelow-has, keepBelow-passes, keepBelow-ascends, keepBelow-length}
+use Rattle.lists.proofs.Keep.{keepBelow-has, keepBelow-passes, keepBelow-ascends}
 use Rattle.graph.specs.Matrix.{Matrix}
 use Rattle.graph.specs.Elimination.{State, infos}
 use Rattle.graph.proofs.Eliminated.{Eliminated}

@@ -7,7 +7,6 @@ pub mod Candidates
 pub mod Source
 pub mod Joined
 pub mod Order
-pub mod Totals
 pub mod Grown
 pub mod Places
 pub mod Held
@@ -18,11 +17,11 @@ pub mod Swapped
 pub mod Cleared
 pub mod Eliminated
 pub mod Infos
+pub mod Alike
 pub mod Columns
 pub mod Clearing
 pub mod Visited
 pub mod Checks
-pub mod Kept
 pub mod Entries
 pub mod Reduced
 pub mod Ends

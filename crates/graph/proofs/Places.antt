@@ -1,4 +1,4 @@
--- Laws of the places of each variable's edges: as a loop over the edges finds them, and all of them one after another.
+-- Laws of the places of each variable's edges: there is room for each edge, and all edges are listed, each once.
 -- Assumes nothing.
 use Prim.Native.Nat.{ℕ, zero, suc, _+_, _<_, _≤_}
 use mathlib.Core.Path.{_≡_, refl, ap, sym, _∙_}
@@ -15,6 +15,7 @@ use Rattle.lists.specs.Entry.{nth}
 use Rattle.lists.specs.Keep.{keepBelow}
 use Rattle.lists.specs.Chain.{startOf}
 use Rattle.lists.proofs.Cases.{same-or-not, less-or-not}
+use Rattle.lists.proofs.Tally.{tally-yes}
 use Rattle.lists.proofs.Keep.{keepBelow-yes, keepBelow-no, keepBelow-empty, keepBelow-up, keepBelow-length}
 use Rattle.lists.proofs.Chain.{start-none, start-more}
 use Rattle.graph.specs.Parts.{places}
@@ -23,32 +24,16 @@ use Rattle.graph.specs.Parts.{places}
 abbrev pub mine : List ℕ → ℕ → ℕ → Bool
 mine vars v e = eqb (nth vars e) v
 
--- those of v among the first e edges
+-- v's edges among the first e
 abbrev pub found : List ℕ → ℕ → ℕ → List ℕ
 found vars v e = keepBelow (mine vars v) e
 
-module _ (vars : List ℕ) (v : ℕ) where
-  pub found-start : found vars v 0 ≡ []
-  unfolding keepBelow
-  found-start = refl
-
-  pub found-hit : (e : ℕ) → nth vars e ≡ v → found vars v e ++ e ∷ [] ≡ found vars v (e + 1)
-  found-hit e q = sym (ap (found vars v) (add-one e) ∙ keepBelow-yes (mine vars v) e (eq-eqb (nth vars e) v q))
-
-  pub found-miss : (e : ℕ) → nth vars e ≢ v → found vars v e ≡ found vars v (e + 1)
-  found-miss e q = sym (ap (found vars v) (add-one e) ∙ keepBelow-no (mine vars v) e (ne-eqb (nth vars e) v q))
-
-  pub found-end : (e : ℕ) → e ≡ length vars → found vars v e ≡ places vars v
-  unfolding places
-  found-end e q = ap (found vars v) q
-
-  -- an edge of v is one more
-  pub found-room : (e : ℕ) → e < length vars → nth vars e ≡ v → length (found vars v e) < length (places vars v)
-  unfolding places
-  found-room e h q =
-      let s = ap length (found-hit e q) in
-      let l = length-append (found vars v e) (e ∷ []) in
-      omega (arith, keepBelow-up (mine vars v) (length vars) (e + 1) (omega arith))
+-- an edge of v is one more
+pub found-room : (vars : List ℕ) (v e : ℕ) → e < length vars → nth vars e ≡ v → length (found vars v e) < length (places vars v)
+unfolding places
+found-room vars v e h q =
+    let s = tally-yes (mine vars v) e (eq-eqb (nth vars e) v q) in
+    omega (arith, keepBelow-up (mine vars v) (length vars) (suc e) h)
 
 -- ---- the variables' places one after another: as many as there are edges of variables below v
 

@@ -1,7 +1,7 @@
 -- Elimination of a graph's check matrix: of any graph whose coefficients are below 32, and of one that stands in parts.
 -- Assumes nothing.
-use mathlib.Core.Path.{_≡_, refl, sym, ap, ap₂, _∙_, subst}
-use mathlib.Core.Bool.{Bool, not}
+use mathlib.Core.Path.{_≡_, sym, ap, _∙_}
+use mathlib.Core.Bool.{not}
 use mathlib.Core.List.{List, map}
 use Prim.Native.Nat.{ℕ, _+_, _*_, _<_, _≤_}
 use native.Mathlib.Nat.{le-refl}
@@ -18,7 +18,7 @@ use Rattle.lists.proofs.AnyBelow.{anyBelow-ext}
 use Rattle.lists.proofs.Chain.{chain-ext}
 use Rattle.lists.proofs.Keep.{keepBelow-ext}
 use Rattle.lists.proofs.Laid.{laid-at}
-use Rattle.lists.proofs.Values.{values-at, values-length, values-ext, values-own, map-values}
+use Rattle.lists.proofs.Values.{values-at, values-length, values-ext, map-entries}
 use Rattle.graph.specs.Graph.{Graph, checkCount}
 use Rattle.graph.specs.Matrix.{matrixOf}
 use Rattle.graph.specs.Elimination.{State, eliminated, reduced, infos}
@@ -28,11 +28,17 @@ use Rattle.graph.specs.Standing.{Stands}
 use Rattle.graph.proofs.Eliminated.{Eliminated, eliminated-is}
 use Rattle.graph.proofs.Entries.{Small, matrix-lt, held-small}
 use Rattle.graph.proofs.Infos.{info-inside}
+use Rattle.graph.proofs.Alike.{eliminated-order}
 
 pub reduced-is : (g : Graph) (order : List ℕ) → Small g → ((t : ℕ) → t < g .n → nth order t < g .n)
     → Eliminated (checkCount g) (g .n) (nth order) (matrixOf g) (g .n) (reduced g order)
 unfolding reduced
 reduced-is g order w inside = eliminated-is (checkCount g) (g .n) (nth order) (matrixOf g) inside (matrix-lt g w) (g .n) (le-refl (g .n))
+
+-- of the order the first n entries count
+pub reduced-order : (g : Graph) (p q : List ℕ) → ((t : ℕ) → t < g .n → nth p t ≡ nth q t) → reduced g p ≡ reduced g q
+unfolding reduced
+reduced-order g p q e = eliminated-order (checkCount g) (g .n) (nth p) (nth q) (matrixOf g) e
 
 -- ---- in parts
 
@@ -82,8 +88,7 @@ module _ {m n r : ℕ} {s : State} {part h parity : List ℕ} (w : Stands m n s 
         values-ext k (λ t. nth h (i * 256 + nth info t)) (λ t. s .matrix i (nth (infos n s) t)) 0
         (λ t b. w .holds .same i (nth info t) (omega (arith, w .rank)) (info-below t b) ∙ ap (s .matrix i) (info-at t b))
         ∙ ap (λ (x : ℕ). values x (λ t. s .matrix i (nth (infos n s) t))) count
-        ∙ sym (map-values (s .matrix i) (length (infos n s)) (nth (infos n s)))
-        ∙ ap (map (s .matrix i)) (values-own 0 (infos n s))
+        ∙ sym (map-entries (s .matrix i) 0 (infos n s))
 
     pub table-same : chain r (λ i. values k (λ t. nth h (i * 256 + nth info t))) ≡ table n s
     unfolding table

@@ -1,6 +1,6 @@
 -- A column of the elimination in parts is that of the state that stands in them.
 -- Assumes nothing.
-use mathlib.Core.Path.{_≡_, refl, sym, ap, ap₂, _∙_, subst}
+use mathlib.Core.Path.{_≡_, refl, sym, ap, ap₂, _∙_}
 use mathlib.Core.Bool.{not}
 use mathlib.Core.List.{List, [], _∷_, _++_}
 use Prim.Native.Nat.{ℕ, suc, _+_, _-_, _<_, _≤_}
@@ -10,7 +10,6 @@ use lib.Dec.{eqb}
 use lib.ListN.{length, set}
 use Rattle.lists.specs.Iter.{iter}
 use Rattle.lists.specs.Changed.{changed}
-use Rattle.lists.specs.Entry.{nth}
 use Rattle.lists.specs.Laid.{laid}
 use Rattle.lists.specs.Lowest.{lowest}
 use Rattle.lists.specs.Values.{values}

@@ -3,7 +3,7 @@
 use mathlib.Core.Path.{_≡_}
 use mathlib.Core.List.{List}
 use Prim.Native.Nat.{ℕ, _+_, _*_, _<_, _≤_}
-use lib.Dec.{eqb}
+use lib.Dec.{ltb}
 use lib.Bits.{bitXor}
 use lib.ListN.{length}
 use Rattle.lists.specs.Choice.{pick}
@@ -27,9 +27,9 @@ timesRow r f g = changed g r (λ j. product f (g r j))
 abbrev pub plusRow : ℕ → ℕ → ℕ → Matrix → Matrix
 plusRow i f r g = changed g i (λ j. bitXor (g i j) (product f (g r j)))
 
--- row r's multiple taken from row i, if that is another, so that its entry in column c is 0
-abbrev pub rowCleared : ℕ → ℕ → ℕ → Matrix → Matrix
-rowCleared i r c g = pick (eqb i r) g (plusRow i (g i c) r g)
+-- row r's multiples taken from the rows at or past `from` and below `to`, so that their entries in column c are 0
+unfoldable pub rowsCleared : ℕ → ℕ → ℕ → ℕ → Matrix → Matrix
+rowsCleared from to r c g a j = pick (ltb a from) (g a j) (pick (ltb a to) (bitXor (g a j) (product (g a c) (g r j))) (g a j))
 
 -- a state of rank r: its matrix in h, its pivots over the front of `parity`, which was `part` before
 pub record Stands (m n : ℕ) (s : State) (part h parity : List ℕ) (r : ℕ) : Type 0 where

@@ -21,7 +21,7 @@ use crate::clear::clear_u8;
 use crate::elimination::eliminate;
 
 // Adds the edges from one place to another to row i.
-pub fn add_check(h: &mut [u8], i: usize, var: &[u16], coef: &[u8], from: usize, to: usize)
+fn add_check(h: &mut [u8], i: usize, var: &[u16], coef: &[u8], from: usize, to: usize)
     requires { ⌜ (length (now h) ≡ 65536) × (i < 256) × (length (now var) ≡ 512) × (length (now coef) ≡ 512) × (from ≤ to) × (to ≤ 512) ⌝ }
     requires { ⌜ ((e : ℕ) → e < to → nth (now var) e < 256) ⌝ }
     ensures { λ _. ⌜ ((m n : ℕ) (g : Matrix) → n ≤ 256 → Holds m n g (now (h .entry)) → Holds m n (changed g i (λ j. foldl (entryTurn j) (g i j) (edgesIn (now (var .entry)) (now (coef .entry)) from to))) (now (h .exit))) ⌝ }
@@ -33,7 +33,7 @@ pub fn add_check(h: &mut [u8], i: usize, var: &[u16], coef: &[u8], from: usize, 
 }
 
 // The check matrix.
-pub fn matrix(m: usize, var: &[u16], coef: &[u8], row: &[u16], h: &mut [u8])
+fn matrix(m: usize, var: &[u16], coef: &[u8], row: &[u16], h: &mut [u8])
     requires { ⌜ Graphed m (now var) (now coef) (now row) ⌝ }
     requires { ⌜ length (now h) ≡ 65536 ⌝ }
     ensures { λ _. ⌜ ((n : ℕ) → n ≤ 256 → Holds m n (matrixOf (held n m (now (var .entry)) (now (coef .entry)) (now (row .entry)))) (now (h .exit))) ⌝ }
@@ -47,7 +47,7 @@ pub fn matrix(m: usize, var: &[u16], coef: &[u8], row: &[u16], h: &mut [u8])
 }
 
 // Whether one of the first r pivots is j.
-pub fn is_pivot(parity: &[u16], r: usize, j: usize) -> bool
+fn is_pivot(parity: &[u16], r: usize, j: usize) -> bool
     requires { ⌜ r ≤ length (now parity) ⌝ }
     ensures { λ b. ⌜ b ≡ among r (nth (now (parity .entry))) j ⌝ }
 {
@@ -60,7 +60,7 @@ pub fn is_pivot(parity: &[u16], r: usize, j: usize) -> bool
 }
 
 // The positions below n that are no pivots, to the front of `info`. Answers how many they are.
-pub fn info_positions(n: usize, r: usize, parity: &[u16], info: &mut [u16]) -> usize
+fn info_positions(n: usize, r: usize, parity: &[u16], info: &mut [u16]) -> usize
     requires { ⌜ (n ≤ 256) × (length (now info) ≡ 256) × (r ≤ length (now parity)) ⌝ }
     ensures { λ k. ⌜ k ≡ length (keepBelow (λ j. not (among r (nth (now (parity .entry))) j)) n) ⌝ }
     ensures { λ _. ⌜ now (info .exit) ≡ laid (keepBelow (λ j. not (among r (nth (now (parity .entry))) j)) n) (now (info .entry)) ⌝ }
@@ -76,7 +76,7 @@ pub fn info_positions(n: usize, r: usize, parity: &[u16], info: &mut [u16]) -> u
 }
 
 // Row i of the table: the matrix's entries at the k information positions, from place `at` on.
-pub fn table_row(i: usize, k: usize, at: usize, h: &[u8], info: &[u16], a: &mut [u8])
+fn table_row(i: usize, k: usize, at: usize, h: &[u8], info: &[u16], a: &mut [u8])
     requires { ⌜ (i < 256) × (length (now h) ≡ 65536) × (length (now info) ≡ 256) × (k ≤ 256) × (at + k ≤ 16384) × (length (now a) ≡ 16384) ⌝ }
     requires { ⌜ ((t : ℕ) → t < k → nth (now info) t < 256) ⌝ }
     ensures { λ _. ⌜ now (a .exit) ≡ laidFrom at (values k (λ t. nth (now (h .entry)) (i * 256 + nth (now (info .entry)) t))) (now (a .entry)) ⌝ }
@@ -87,7 +87,7 @@ pub fn table_row(i: usize, k: usize, at: usize, h: &[u8], info: &[u16], a: &mut 
 }
 
 // The table: a row for each of the r pivots.
-pub fn table(r: usize, k: usize, h: &[u8], info: &[u16], a: &mut [u8])
+fn table(r: usize, k: usize, h: &[u8], info: &[u16], a: &mut [u8])
     requires { ⌜ (r ≤ 256) × (k ≤ 256) × (length (now h) ≡ 65536) × (length (now info) ≡ 256) × (length (now a) ≡ 16384) × (r * k ≤ 16384) ⌝ }
     requires { ⌜ ((t : ℕ) → t < k → nth (now info) t < 256) ⌝ }
     ensures { λ _. ⌜ now (a .exit) ≡ laid (chain r (λ i. values k (λ t. nth (now (h .entry)) (i * 256 + nth (now (info .entry)) t)))) (now (a .entry)) ⌝ }

@@ -52,6 +52,10 @@ module _ (test : ℕ → Bool) where
   unfolding keepBelow
   keepBelow-no m t = rw (pick-false (test m) (m ∷ []) [] t, append-nil)
 
+  pub keepBelow-none : keepBelow test 0 ≡ []
+  unfolding keepBelow
+  keepBelow-none = refl
+
   pub keepBelow-empty : length (keepBelow test 0) ≡ 0
   unfolding keepBelow
   keepBelow-empty = refl

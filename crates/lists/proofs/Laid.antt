@@ -3,7 +3,7 @@
 use Prim.Native.Nat.{ℕ, zero, suc, _+_, _-_, _<_, _≤_}
 use mathlib.Core.Path.{_≡_, refl, ap, ap₂, sym, _∙_}
 use mathlib.Core.List.{List, [], _∷_, _++_, append-assoc, append-nil}
-use native.Mathlib.Nat.{add-zero}
+use native.Mathlib.Nat.{add-zero, zero-add}
 use native.Mathlib.Numerals.{add-one}
 use native.Mathlib.Omega.{arith}
 use lib.ListN.{length, getD, set, take, drop, length-append, length-take, length-drop, List·getD-append, take-append-drop}
@@ -81,6 +81,11 @@ module _ {ℓ} {A : Type ℓ} where
       ∙ set-at (take at p ++ l) (getD p (at + length l) x) (drop (suc (at + length l)) p) x w b
       ∙ append-assoc (take at p) l (x ∷ drop (suc (at + length l)) p)
       ∙ ap (λ (r : List A). take at p ++ r) (sym (append-assoc l (x ∷ []) (drop (suc (at + length l)) p)) ∙ ap (λ (z : ℕ). (l ++ x ∷ []) ++ drop z p) (sym m))
+
+  -- from the front on
+  pub from-zero : (l p : List A) → laidFrom 0 l p ≡ laid l p
+  unfolding laid laidFrom
+  from-zero l p = ap (λ (w : ℕ). l ++ drop w p) (zero-add (length l))
 
   pub from-length : (at : ℕ) (l p : List A) → at + length l ≤ length p → length (laidFrom at l p) ≡ length p
   unfolding laidFrom

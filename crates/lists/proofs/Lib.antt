@@ -15,6 +15,7 @@ pub mod Among
 pub mod EachOnce
 pub mod Rising
 pub mod Laid
+pub mod Kept
 pub mod Total
 pub mod Chain
 pub mod Times

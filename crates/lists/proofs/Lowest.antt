@@ -1,12 +1,13 @@
 -- Laws of the search that answers where: what it finds, and as a loop runs it, by the code's numbers: p of the numbers below m are tried.
 -- Assumes nothing.
-use mathlib.Core.Path.{_≡_, refl, sym, ap, _∙_}
+use mathlib.Core.Path.{_≡_, refl, sym, ap, ap₂, _∙_}
 use mathlib.Core.Logic.{⊎-elim}
 use mathlib.Core.Bool.{Bool, true, false}
 use Prim.Native.Nat.{ℕ, zero, suc, _+_, _-_, _<_, _≤_}
 use native.Mathlib.Nat.{le-refl}
 use native.Mathlib.Numerals.{add-one}
 use native.Mathlib.Omega.{arith}
+use Rattle.lists.specs.Choice.{pick}
 use Rattle.lists.specs.Lowest.{lowest}
 use Rattle.lists.proofs.Cases.{true-or-false, same-or-not}
 use Rattle.lists.proofs.Choice.{pick-true, pick-false}
@@ -58,3 +59,10 @@ module _ (test : ℕ → Bool) where
   pub lowest-end : (m p w : ℕ) → m ≤ p → lowest test (m - p) p ≡ w → p ≡ w
   unfolding lowest
   lowest-end m p w h e = let z : m - p ≡ 0 = omega arith in rw z at e
+
+-- tests that agree where it searches
+pub lowest-ext : (f g : ℕ → Bool) (k r : ℕ) → ((i : ℕ) → r ≤ i → i < r + k → f i ≡ g i) → lowest f k r ≡ lowest g k r
+unfolding lowest
+lowest-ext f g zero r e = refl
+lowest-ext f g (suc k) r e =
+    ap₂ (λ (x : Bool) (y : ℕ). pick x r y) (e r (le-refl r) (omega arith)) (lowest-ext f g k (suc r) (λ i a b. e i (omega arith) (omega arith)))

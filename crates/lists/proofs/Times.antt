@@ -12,9 +12,11 @@ use Rattle.lists.specs.Choice.{pick}
 use Rattle.lists.specs.Keep.{keep, keepBelow}
 use Rattle.lists.specs.Entry.{nth}
 use Rattle.lists.specs.Times.{times}
+use Rattle.lists.specs.Total.{total}
 use Rattle.lists.proofs.Cases.{same-or-not, true-or-false}
 use Rattle.lists.proofs.Choice.{pick-true, pick-false, pick-same, pick-other}
 use Rattle.lists.proofs.Keep.{keepBelow-yes, keepBelow-no}
+use Rattle.lists.proofs.Total.{total-none, total-suc, total-ext, total-zero, total-plus}
 
 pub times-none : (x : ℕ) → times x [] ≡ 0
 unfolding times
@@ -114,3 +116,31 @@ times-keepBelow test (suc m) x h =
     let i = times-keepBelow test m x (omega arith) in
     (omega arith, i .1))
     (true-or-false (test m))
+
+-- ---- how often each number stands in a list, summed over the numbers
+
+total-one : (y n : ℕ) → (n ≤ y → total n (λ x. times x (y ∷ [])) ≡ 0) × (y < n → total n (λ x. times x (y ∷ [])) ≡ 1)
+total-one y zero = ((λ h. total-none (λ x. times x (y ∷ []))), (λ h. absurd (not-suc-le-zero h)))
+total-one y (suc n) =
+    let i = total-one y n in
+    let a = total-suc (λ x. times x (y ∷ [])) n in
+    let z = times-none n in (
+      (λ h.
+          let o = times-other n y [] (λ e. omega arith) in
+          let e = i .0 (omega arith) in
+          omega arith),
+      (λ h. ⊎-elim
+          (λ e. let s = times-same n y [] e in let q = i .0 (omega arith) in omega arith)
+          (λ k. let o = times-other n y [] k in let q = i .1 (omega (arith, k)) in omega arith)
+          (same-or-not n y)),
+    )
+
+-- a list of numbers below n
+pub total-times : (n : ℕ) (l : List ℕ) → ((x : ℕ) → 0 < times x l → x < n) → total n (λ x. times x l) ≡ length l
+total-times n [] h = total-ext n (λ x. times x []) (λ _. 0) (λ x q. times-none x) ∙ total-zero n
+total-times n (y ∷ l) h =
+    let i = total-times n l (λ x q. h x (let t = times-append x (y ∷ []) l in omega arith)) in
+    let o = total-one y n .1 (h y (let s = times-same y y l refl in omega arith)) in
+    let a = total-ext n (λ x. times x (y ∷ l)) (λ x. times x (y ∷ []) + times x l) (λ x q. times-append x (y ∷ []) l) in
+    let p = total-plus n (λ x. times x (y ∷ [])) (λ x. times x l) in
+    omega arith

@@ -32,3 +32,26 @@ module _ (f : ℕ → ℕ) where
 pub total-ext : (n : ℕ) (f g : ℕ → ℕ) → ((k : ℕ) → k < n → f k ≡ g k) → total n f ≡ total n g
 total-ext zero f g e = total-none f ∙ sym (total-none g)
 total-ext (suc n) f g e = total-suc f n ∙ ap₂ (λ (x y : ℕ). x + y) (total-ext n f g (λ k h. e k (le-step h))) (e n (le-refl (suc n))) ∙ sym (total-suc g n)
+
+pub total-zero : (n : ℕ) → total n (λ _. 0) ≡ 0
+total-zero zero = total-none (λ _. 0)
+total-zero (suc n) = let i = total-zero n in let a = total-suc (λ _. 0) n in omega arith
+
+pub total-plus : (n : ℕ) (f g : ℕ → ℕ) → total n (λ k. f k + g k) ≡ total n f + total n g
+total-plus zero f g = let a = total-none (λ k. f k + g k) in let b = total-none f in let c = total-none g in omega arith
+total-plus (suc n) f g =
+    let i = total-plus n f g in
+    let a = total-suc (λ k. f k + g k) n in
+    let b = total-suc f n in
+    let c = total-suc g n in
+    omega arith
+
+-- by rows or by columns
+pub total-swap : (m n : ℕ) (f : ℕ → ℕ → ℕ) → total m (λ c. total n (f c)) ≡ total n (λ u. total m (λ c. f c u))
+total-swap zero n f = total-none (λ c. total n (f c)) ∙ sym (total-ext n (λ u. total 0 (λ c. f c u)) (λ _. 0) (λ u h. total-none (λ c. f c u)) ∙ total-zero n)
+total-swap (suc m) n f =
+    let i = total-swap m n f in
+    let a = total-suc (λ c. total n (f c)) m in
+    let b = total-ext n (λ u. total (suc m) (λ c. f c u)) (λ u. total m (λ c. f c u) + f m u) (λ u h. total-suc (λ c. f c u) m) in
+    let p = total-plus n (λ u. total m (λ c. f c u)) (f m) in
+    omega arith

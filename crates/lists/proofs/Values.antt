@@ -70,6 +70,9 @@ pub map-values {ℓ ℓ′} : {A : Type ℓ} {B : Type ℓ′} (h : A → B) (n 
 unfolding values
 map-values h n f = map-from h 0 n f
 
+pub map-entries {ℓ ℓ′} : {A : Type ℓ} {B : Type ℓ′} (h : A → B) (d : A) (l : List A) → map h l ≡ values (length l) (λ k. h (getD l k d))
+map-entries h d l = ap (map h) (sym (values-own d l)) ∙ map-values h (length l) (λ k. getD l k d)
+
 -- n values and k more
 pub values-add {ℓ} : {A : Type ℓ} (n k : ℕ) (f : ℕ → A) → values (n + k) f ≡ values n f ++ values k (λ j. f (n + j))
 unfolding values

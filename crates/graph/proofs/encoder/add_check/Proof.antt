@@ -3,7 +3,6 @@
 use mathlib.Core.Path.{_≡_, subst}
 use Prim.Native.Nat.{ℕ, _-_, _<_, _≤_}
 use native.Mathlib.Omega.{arith}
-use borrow.Author.Needs.{needs}
 use denote.Ref.{now}
 use lib.ListN.{length, length-set}
 use Rattle.lists.specs.Changed.{changed}

@@ -15,7 +15,6 @@ use Rattle.graph.specs.Elimination.{State, reduced, infos}
 use Rattle.graph.specs.Held.{held}
 use Rattle.graph.specs.Standing.{Stands}
 use Rattle.graph.proofs.Eliminated.{Eliminated}
-use Rattle.graph.proofs.Entries.{held-small}
 use Rattle.graph.proofs.Infos.{infos-count, table-fits}
 use Rattle.graph.proofs.Reduced.{reduced-held, held-eliminated, infos-same, pivots-same, info-below, table-same}
 use Rattle.graph.proofs.encoder.build_encoder.Statement.{statement}
@@ -110,8 +109,7 @@ returns c =
       w .rank,
       pivots-same w,
       q .1,
-      c .before .before .table .ensures ∙ ap (λ (l : List ℕ). laid l (now (s .args .a)))
-          (table-same w (laws s .rank-rows) (c .before .before .before .before .before .before .before .before .info-positions .result) (c .before .before .before .before .before .before .before .before .info-positions .last .1 .1 .1 .0) (now (s .args .info)) (q .0) (q .1)),
+      rw (← table-same w (laws s .rank-rows) (c .before .before .before .before .before .before .before .before .info-positions .result) (c .before .before .before .before .before .before .before .before .info-positions .last .1 .1 .1 .0) (now (s .args .info)) (q .0) (q .1)) (c .before .before .table .ensures),
     )
 
 pub build-encoder-spec : {M : Type 1} → statement M

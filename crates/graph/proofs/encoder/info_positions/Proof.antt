@@ -5,13 +5,14 @@ use mathlib.Core.Logic.{⊎-elim}
 use mathlib.Core.Bool.{Bool, not}
 use mathlib.Core.List.{List}
 use Prim.Native.Nat.{ℕ, _+_, _-_, _≤_}
+use native.Mathlib.Nat.{zero-add}
 use native.Mathlib.Omega.{arith}
-use borrow.Author.Needs.{needs}
 use denote.Ref.{now}
 use lib.ListN.{length, length-set}
 use Rattle.lists.specs.Among.{among}
 use Rattle.lists.specs.Entry.{nth}
-use Rattle.graph.proofs.Kept.{Kept, kept-start, kept-pass, kept-fail}
+use Rattle.lists.proofs.Kept.{Kept, kept-start, kept-pass, kept-fail}
+use Rattle.lists.proofs.Laid.{from-zero}
 use Rattle.graph.proofs.encoder.info_positions.Statement.{statement}
 use Rattle.graph.proofs.encoder.info_positions.Tie as tie
 
@@ -20,7 +21,7 @@ abbrev free : ℕ → List ℕ → ℕ → Bool
 free r parity j = not (among r (nth parity) j)
 
 abbrev Inv-loop : tie.InvT-loop
-Inv-loop n r parity info₀ k₀ j₀ info k j = (j ≤ n) × (k ≤ j) × (length info ≡ 256) × Kept (free r parity) j k info₀ info
+Inv-loop n r parity info₀ k₀ j₀ info k j = (j ≤ n) × (k ≤ j) × (length info ≡ 256) × Kept (free r parity) 0 j k info₀ info
 
 abbrev μ-loop : tie.MeasureT-loop
 μ-loop n r parity info₀ k₀ j₀ info k j = n - j
@@ -36,15 +37,15 @@ loop-again c =
       omega arith,
       omega arith,
       ap length (w .1) ∙ simp length-set (l .inv .2),
-      subst₂ (λ (x : ℕ) (y : List ℕ). Kept test (l .j + 1) x (now (a .info)) y) (sym (w .2)) (sym (w .1))
-          (kept-pass test (now (a .info)) (l .j) (l .k) (l .info) (e ∙ w .0 .taken) (omega arith) (l .inv .3)),
+      subst₂ (λ (x : ℕ) (y : List ℕ). Kept test 0 (l .j + 1) x (now (a .info)) y) (sym (w .2)) (sym (w .1))
+          (kept-pass test 0 (now (a .info)) (l .j) (l .k) (l .info) (e ∙ w .0 .taken) (omega arith) (l .inv .3)),
     ))
     (λ w. (
       omega arith,
       omega arith,
       ap length (w .1) ∙ l .inv .2,
-      subst₂ (λ (x : ℕ) (y : List ℕ). Kept test (l .j + 1) x (now (a .info)) y) (sym (w .2)) (sym (w .1))
-          (kept-fail test (now (a .info)) (l .j) (l .k) (l .info) (e ∙ w .0 .left) (l .inv .3)),
+      subst₂ (λ (x : ℕ) (y : List ℕ). Kept test 0 (l .j + 1) x (now (a .info)) y) (sym (w .2)) (sym (w .1))
+          (kept-fail test 0 (now (a .info)) (l .j) (l .k) (l .info) (e ∙ w .0 .left) (l .inv .3)),
     ))
     (c .if1 .came)
 
@@ -53,8 +54,8 @@ returns c =
     let a = c .before .before .before .before .args in
     let l = c .before .loop in
     let q : l .j ≡ a .n = omega arith in
-    let w = subst (λ (j : ℕ). Kept (free (a .r) (now (a .parity))) j (l .k) (now (a .info)) (l .info)) q (l .inv .3) in
-    (w .count, w .front)
+    let w = subst (λ (j : ℕ). Kept (free (a .r) (now (a .parity))) 0 j (l .k) (now (a .info)) (l .info)) q (l .inv .3) in
+    (w .count ∙ zero-add _, w .there ∙ from-zero _ _)
 
 pub info-positions-spec : {M : Type 1} → statement M
 info-positions-spec =
@@ -64,7 +65,7 @@ info-positions-spec =
     μ-loop
     (λ c.
     let s = c .before .before in
-    (omega arith, omega arith, s .pre .1, kept-start (free (s .args .r) (now (s .args .parity))) (now (s .args .info))))
+    (omega arith, omega arith, s .pre .1, kept-start (free (s .args .r) (now (s .args .parity))) 0 (now (s .args .info))))
     (λ c κs. c .before .before .before .before .pre .2)
     (λ c. omega arith)
     (λ c. omega arith)
