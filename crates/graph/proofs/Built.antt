@@ -28,6 +28,10 @@ module _ (s e : ℕ) (vars : List ℕ) where
   unfolding weighted
   weighted-length = values-length (λ j. (nth vars j, coefficient s (e + j))) (length vars)
 
+  pub weighted-at : (j : ℕ) → j < length vars → getD (weighted s e vars) j (0, 0) ≡ (nth vars j, coefficient s (e + j))
+  unfolding weighted
+  weighted-at j h = values-at (λ j. (nth vars j, coefficient s (e + j))) (length vars) j (0, 0) h
+
   weighted-variables : map (λ (x : Edge). x .0) (weighted s e vars) ≡ vars
   unfolding weighted
   weighted-variables = map-values (λ (x : Edge). x .0) (length vars) (λ j. (nth vars j, coefficient s (e + j))) ∙ values-own 0 vars

@@ -118,17 +118,16 @@ module _ (n m : ℕ) (degrees : List ℕ) (seed : ℕ) (ok : Buildable n m degre
   last : nth rowPart m ≡ length (edges g)
   last = row-at m (omega arith) ∙ built-starts n m degrees seed m (omega arith) ∙ sym (built-count n m degrees seed)
 
-  variable-lt : (e : ℕ) → e < length (edges g) → nth (variables g) e < n
+  pub variable-lt : (e : ℕ) → e < length (edges g) → nth (variables g) e < n
   variable-lt e h =
       subst (λ (l : List ℕ). nth l e < n) (sym (built-variables n m degrees seed))
       (chain-each (grownChk n m degrees seed) (λ (x : ℕ). x < n) 0 m (λ c j a b. built-well n m degrees seed ok .variables c j b) e
       (subst (λ (l : List ℕ). e < length l) (built-variables n m degrees seed) (omega (arith, vars-long))))
 
-  coef-lt : (e : ℕ) → e < length (edges g) → nth (coefficients g) e < 32
-  coef-lt e h =
-      subst (λ (l : List ℕ). nth l e < 32) (sym (built-coefficients n m degrees seed))
-      (subst (λ (x : ℕ). x < 32) (sym (values-at (coefficient (growth n m degrees seed .1)) (startOf (grownChk n m degrees seed) m) e 0 (omega (arith, built-count n m degrees seed))))
-      (coefficient-lt (growth n m degrees seed .1) e))
+  pub coefficient-at : (e : ℕ) → e < length (edges g) → nth (coefficients g) e ≡ coefficient (growth n m degrees seed .1) e
+  coefficient-at e h =
+      ap (λ (l : List ℕ). nth l e) (built-coefficients n m degrees seed)
+      ∙ values-at (coefficient (growth n m degrees seed .1)) (startOf (grownChk n m degrees seed) m) e 0 (omega (arith, built-count n m degrees seed))
 
   pub parts-encodable : Encodable n m varPart coefPart rowPart orderPart
   parts-encodable = record {
@@ -141,6 +140,6 @@ module _ (n m : ℕ) (degrees : List ℕ) (seed : ℕ) (ok : Buildable n m degre
     rise = λ c h. omega (arith, row-at c (omega arith), row-at (c + 1) (omega arith), start-more (check g) c);
     end = omega (arith, last, few);
     vars = λ e h. let l : e < length (edges g) = omega (arith, last) in subst (λ (x : ℕ). x < n) (sym (var-at e l)) (variable-lt e l);
-    coefs = λ e h. let l : e < length (edges g) = omega (arith, last) in subst (λ (x : ℕ). x < 32) (sym (coef-at e l)) (coef-lt e l);
+    coefs = λ e h. let l : e < length (edges g) = omega (arith, last) in subst (λ (x : ℕ). x < 32) (sym (coef-at e l ∙ coefficient-at e l)) (coefficient-lt (growth n m degrees seed .1) e);
     columns = λ t h. subst (λ (x : ℕ). x < n) (sym (order-at t h)) (descending-once n .inside t h);
   }

@@ -8,11 +8,13 @@ pub mod Source
 pub mod Joined
 pub mod Order
 pub mod Grown
+pub mod RowStarts
 pub mod Places
 pub mod Held
 pub mod Blank
 pub mod Built
 pub mod BuiltParts
+pub mod BuiltWell
 pub mod Swapped
 pub mod Cleared
 pub mod Eliminated

@@ -1,4 +1,4 @@
--- Laws of the places of each variable's edges: there is room for each edge, and all edges are listed, each once.
+-- Laws of the lists by variable: each holds its variable's edges and nothing else, ascending, and together they hold every edge once.
 -- Assumes nothing.
 use Prim.Native.Nat.{ℕ, zero, suc, _+_, _<_, _≤_}
 use mathlib.Core.Path.{_≡_, refl, ap, sym, _∙_}
@@ -8,15 +8,18 @@ use mathlib.Core.Logic.{⊎-elim, _≢_}
 use native.Mathlib.Nat.{le-refl}
 use native.Mathlib.Numerals.{add-one}
 use native.Mathlib.Omega.{arith}
-use borrow.Author.Tests.{eq-eqb, ne-eqb, lt-ltb, le-ltb}
+use borrow.Author.Tests.{eq-eqb, ne-eqb, eqb-true, lt-ltb, le-ltb}
 use lib.Dec.{eqb, ltb}
 use lib.ListN.{length, length-append}
+use lib.Seq.{take-length}
 use Rattle.lists.specs.Entry.{nth}
 use Rattle.lists.specs.Keep.{keepBelow}
 use Rattle.lists.specs.Chain.{startOf}
+use Rattle.lists.specs.Times.{times}
 use Rattle.lists.proofs.Cases.{same-or-not, less-or-not}
 use Rattle.lists.proofs.Tally.{tally-yes}
-use Rattle.lists.proofs.Keep.{keepBelow-yes, keepBelow-no, keepBelow-empty, keepBelow-up, keepBelow-length}
+use Rattle.lists.proofs.Keep.{keepBelow-yes, keepBelow-no, keepBelow-empty, keepBelow-up, keepBelow-length, keepBelow-has, keepBelow-passes, keepBelow-ascends}
+use Rattle.lists.proofs.Times.{times-places}
 use Rattle.lists.proofs.Chain.{start-none, start-more}
 use Rattle.graph.specs.Parts.{places}
 
@@ -100,3 +103,25 @@ module _ (vars : List ℕ) where
           let i = all e (omega arith) in
           let a = ap length (keepBelow-yes (λ e. ltb (nth vars e) n) e (lt-ltb (nth vars e) n (h e l))) ∙ length-append (below n e) (e ∷ []) in
           omega arith
+
+-- ---- each variable's list holds its edges and nothing else, ascending
+
+module _ (vars : List ℕ) (v : ℕ) where
+  pub places-own : (t : ℕ) → t < length (places vars v) → (nth (places vars v) t < length vars) × (nth vars (nth (places vars v) t) ≡ v)
+  unfolding places
+  places-own t h =
+      let r = keepBelow-passes (mine vars v) (length vars) t h in
+      (r .0, eqb-true (nth vars (nth (places vars v) t)) v (r .1))
+
+  pub places-has : (e : ℕ) → e < length vars → nth vars e ≡ v → (t : ℕ) × (t < length (places vars v)) × (nth (places vars v) t ≡ e)
+  unfolding places
+  places-has e h q = keepBelow-has (mine vars v) (length vars) e h (eq-eqb (nth vars e) v q)
+
+  pub places-ascend : (t u : ℕ) → t < u → u < length (places vars v) → nth (places vars v) t < nth (places vars v) u
+  unfolding places
+  places-ascend t u a h = keepBelow-ascends (mine vars v) (length vars) t u a h
+
+  -- as many as v stands among the edges
+  pub places-times : length (places vars v) ≡ times v vars
+  unfolding places
+  places-times = times-places vars v (length vars) (le-refl (length vars)) ∙ ap (times v) (take-length vars)

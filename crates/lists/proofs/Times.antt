@@ -5,17 +5,23 @@ use mathlib.Core.Logic.{_≢_, ⊎-elim}
 use mathlib.Core.Bool.{Bool, true}
 use mathlib.Core.List.{List, [], _∷_, _++_}
 use Prim.Native.Nat.{ℕ, zero, suc, _+_, _<_, _≤_}
-use native.Mathlib.Nat.{not-suc-le-zero, le-of-suc-le-suc}
+use native.Mathlib.Nat.{not-suc-le-zero, le-of-suc-le-suc, zero-lt-suc}
+use native.Mathlib.Numerals.{add-one}
 use native.Mathlib.Omega.{arith}
-use lib.ListN.{length}
+use borrow.Author.Tests.{eq-eqb, ne-eqb}
+use lib.Dec.{eqb}
+use lib.ListN.{length, take, length-append}
 use Rattle.lists.specs.Choice.{pick}
 use Rattle.lists.specs.Keep.{keep, keepBelow}
 use Rattle.lists.specs.Entry.{nth}
 use Rattle.lists.specs.Times.{times}
 use Rattle.lists.specs.Total.{total}
+use Rattle.lists.specs.Chain.{chain}
 use Rattle.lists.proofs.Cases.{same-or-not, true-or-false}
 use Rattle.lists.proofs.Choice.{pick-true, pick-false, pick-same, pick-other}
-use Rattle.lists.proofs.Keep.{keepBelow-yes, keepBelow-no}
+use Rattle.lists.proofs.Fold.{take-more}
+use Rattle.lists.proofs.Keep.{keepBelow-yes, keepBelow-no, keepBelow-empty}
+use Rattle.lists.proofs.Chain.{chain-none, chain-suc}
 use Rattle.lists.proofs.Total.{total-none, total-suc, total-ext, total-zero, total-plus}
 
 pub times-none : (x : ℕ) → times x [] ≡ 0
@@ -144,3 +150,35 @@ total-times n (y ∷ l) h =
     let a = total-ext n (λ x. times x (y ∷ l)) (λ x. times x (y ∷ []) + times x l) (λ x q. times-append x (y ∷ []) l) in
     let p = total-plus n (λ x. times x (y ∷ [])) (λ x. times x l) in
     omega arith
+
+-- what stands in a list stands at a place
+pub times-has : (x : ℕ) (l : List ℕ) → 0 < times x l → (t : ℕ) × (t < length l) × (nth l t ≡ x)
+times-has x [] h = absurd (omega (arith, times-none x))
+times-has x (y ∷ l) h =
+    ⊎-elim
+    (λ e. (0, zero-lt-suc (length l), sym e))
+    (λ k. let r = times-has x l (omega (arith, times-other x y l k)) in (suc (r .0), omega (arith, r .1), r .2))
+    (same-or-not x y)
+
+-- as often as there are places of it
+pub times-places : (l : List ℕ) (x k : ℕ) → k ≤ length l → length (keepBelow (λ e. eqb (nth l e) x) k) ≡ times x (take k l)
+times-places l x zero h = keepBelow-empty (λ e. eqb (nth l e) x) ∙ sym (times-none x)
+times-places l x (suc k) h =
+    let i = times-places l x k (omega arith) in
+    let m : take (suc k) l ≡ take k l ++ nth l k ∷ [] = ap (λ (j : ℕ). take j l) (sym (add-one k)) ∙ take-more 0 l k (nth l k) h refl in
+    let a = ap (times x) m ∙ times-append x (take k l) (nth l k ∷ []) in
+    ⊎-elim
+    (λ e.
+    let y = ap length (keepBelow-yes (λ e. eqb (nth l e) x) k (eq-eqb (nth l k) x e)) ∙ length-append (keepBelow (λ e. eqb (nth l e) x) k) (k ∷ []) in
+    omega (arith, times-same x (nth l k) [] (sym e), times-none x))
+    (λ d.
+    let y = ap length (keepBelow-no (λ e. eqb (nth l e) x) k (ne-eqb (nth l k) x d)) in
+    omega (arith, times-other x (nth l k) [] (λ q. d (sym q)), times-none x))
+    (same-or-not (nth l k) x)
+
+-- in lists one after another
+pub times-chain : (x n : ℕ) (f : ℕ → List ℕ) → times x (chain n f) ≡ total n (λ k. times x (f k))
+times-chain x zero f = ap (times x) (chain-none f) ∙ times-none x ∙ sym (total-none (λ k. times x (f k)))
+times-chain x (suc n) f =
+    ap (times x) (chain-suc f n) ∙ times-append x (chain n f) (f n)
+    ∙ ap (λ (k : ℕ). k + times x (f n)) (times-chain x n f) ∙ sym (total-suc (λ k. times x (f k)) n)
