@@ -64,8 +64,9 @@ module _ (m n : ℕ) (g : Adjacency) (v : ℕ) (good : Good m n g) (mb : m ≤ 2
     metV = met-layer (g .chk) (newC g s .1) (s .seenV) longV
 
     lessV : (length (newV g s .1) ≡ 0 → ⊥) → free (newV g s .0) < free (s .seenV)
+    unfolding free
     lessV z =
-        let b = metV .balance (flat-in (g .chk) (λ x. x < 256) (λ x c h. let i = good .inside c x (let e = good .both c x in omega arith) in omega arith) (newC g s .1)) in
+        let b = metV .balance 256 (omega arith) (flat-in (g .chk) (λ x. x < 256) (λ x c h. let i = good .inside c x (let e = good .both c x in omega arith) in omega arith) (newC g s .1)) in
         omega (arith, z)
 
     rest-fresh : Owned g v (newC g s .0) → 0 < length (rest m g s) → Fresh m g v (rest m g s)
@@ -112,12 +113,13 @@ module _ (m n : ℕ) (g : Adjacency) (v : ℕ) (good : Good m n g) (mb : m ≤ 2
 
     -- the first turn, from v alone
     pub searched-fresh : Fresh m g v (candidates 257 m g (begin v))
+    unfolding free
     searched-fresh =
         let lc = length-replicate 256 false in
         let lv : length (begin v .seenV) ≡ 256 = length-set clear v true ∙ lc in
         let r = metC (begin v) lc lv in
         let o : Owned g v (newC g (begin v) .0) = λ c h. r .cover c (subst (λ (l : List ℕ). 0 < times c l) (sym own-list) h) (let i = good .inside c v h in omega arith) in
-        let b = r .balance (flat-in (g .var) (λ x. x < 256) (λ x u h. let i = good .inside x u h in omega arith) (v ∷ [])) in
+        let b = r .balance 256 (omega arith) (flat-in (g .var) (λ x. x < 256) (λ x u h. let i = good .inside x u h in omega arith) (v ∷ [])) in
         let w : length (newC g (begin v) .1) ≤ 0 + length (g .var v) = subst (λ (l : List ℕ). length (newC g (begin v) .1) ≤ 0 + length l) own-list (r .few) in
         let all = unmarked-clear m mb in
         let fl = free-le (begin v .seenV) in

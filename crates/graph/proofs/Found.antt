@@ -12,9 +12,10 @@ use Rattle.lists.specs.Times.{times}
 use Rattle.lists.proofs.Cases.{same-or-not, true-or-false}
 use Rattle.lists.proofs.Choice.{pick-true, pick-false}
 use Rattle.lists.proofs.Times.{times-append, times-none, times-same, times-other}
-use Rattle.graph.specs.Search.{Found, meet, visited, layer}
-use Rattle.graph.specs.Rows.{free}
-use Rattle.graph.proofs.Marks.{free-set}
+use Rattle.graph.specs.Adjacency.{Adjacency}
+use Rattle.graph.specs.Search.{Found, meet, visited, layer, unmarked, Reach, newC, rest}
+use Rattle.graph.specs.Served.{Good}
+use Rattle.graph.proofs.Marks.{unmarked-set}
 
 -- s′ is s after the entries of l were met
 pub record Met (l : List ℕ) (s s′ : Found) : Type 0 where
@@ -22,7 +23,7 @@ pub record Met (l : List ℕ) (s s′ : Found) : Type 0 where
   pub kept : (x : ℕ) → getD (s .0) x false ≡ true → getD (s′ .0) x false ≡ true
   pub new : (x : ℕ) → 0 < times x (s′ .1) → (0 < times x (s .1)) ⊎ ((0 < times x l) × (getD (s .0) x false ≡ false))
   pub cover : (x : ℕ) → 0 < times x l → x < 256 → getD (s′ .0) x false ≡ true
-  pub balance : ((x : ℕ) → 0 < times x l → x < 256) → free (s′ .0) + length (s′ .1) ≡ free (s .0) + length (s .1)
+  pub balance : (n : ℕ) → n ≤ 256 → ((x : ℕ) → 0 < times x l → x < n) → length (unmarked (s′ .0) n) + length (s′ .1) ≡ length (unmarked (s .0) n) + length (s .1)
   pub few : length (s′ .1) ≤ length (s .1) + length l
 
 met-none : (s : Found) → length (s .0) ≡ 256 → Met [] s s
@@ -31,7 +32,7 @@ met-none s e = record {
   kept = λ x h. h;
   new = λ x h. inl h;
   cover = λ x h b. absurd (let n = times-none x in omega arith);
-  balance = λ h. refl;
+  balance = λ n b h. refl;
   few = omega arith;
 }
 
@@ -50,9 +51,9 @@ met-both l k s s′ s″ a b = record {
       (λ z. b .cover x (omega arith) i)
       (λ z. b .kept x (a .cover x (omega arith) i))
       (same-or-not (times x l) 0);
-  balance = λ h.
-      let p = a .balance (λ x i. h x (let t = times-append x l k in omega arith)) in
-      let q = b .balance (λ x i. h x (let t = times-append x l k in omega arith)) in
+  balance = λ n c h.
+      let p = a .balance n c (λ x i. h x (let t = times-append x l k in omega arith)) in
+      let q = b .balance n c (λ x i. h x (let t = times-append x l k in omega arith)) in
       q ∙ p;
   few = let p = a .few in let q = b .few in simp length-append (omega arith);
 }
@@ -66,7 +67,7 @@ met-old s y e m = record {
       (λ q. ap (λ (z : ℕ). getD (s .0) z false) q ∙ m)
       (λ q. absurd (let o = times-other x y [] q in let n = times-none x in omega arith))
       (same-or-not x y);
-  balance = λ h. refl;
+  balance = λ n b h. refl;
   few = omega arith;
 }
 
@@ -85,9 +86,10 @@ met-new s y e m = record {
       (λ q. ap (λ (k : ℕ). getD (set (s .0) y true) k false) q ∙ getD-set-same (s .0) y true false (omega arith))
       (λ q. absurd (let o = times-other x y [] q in let n = times-none x in omega arith))
       (same-or-not x y);
-  balance = λ h.
+  balance = λ n b h.
       let o = times-same y y [] refl in
-      let f = free-set (s .0) y e (h y (omega arith)) m in
+      let i = h y (omega arith) in
+      let f = unmarked-set (s .0) n y (omega arith) i m in
       simp length-append (omega arith);
   few = simp length-append (omega arith);
 }
@@ -130,3 +132,9 @@ flat-in lists P h (u ∷ l) x q =
     (λ z. flat-in lists P h l x (omega arith))
     (λ z. h x u (omega arith))
     (same-or-not (times x (lists u)) 0)
+
+-- each check that a layer finds is one less that is not reached
+pub rest-less : (m n : ℕ) (g : Adjacency) (s : Reach) → Good m n g → m ≤ 256 → length (s .seenC) ≡ 256 → length (rest m g s) + length (newC g s .1) ≡ length (unmarked (s .seenC) m)
+rest-less m n g s good b e =
+    let q = met-layer (g .var) (s .front) (s .seenC) e .balance m b (flat-in (g .var) (λ x. x < m) (λ x u h. good .inside x u h .0) (s .front)) in
+    omega arith

@@ -26,6 +26,17 @@ pub unmarked-clear : (m : ℕ) → m ≤ 256 → length (unmarked clear m) ≡ m
 unfolding unmarked
 unmarked-clear m b = tally-all (λ c. not (getD clear c false)) m (λ c h. ap not (getD-replicate 256 c false false (omega arith)))
 
+-- a mark takes one
+pub unmarked-set : (seen : List Bool) (m p : ℕ) → p < length seen → p < m → getD seen p false ≡ false → length (unmarked (set seen p true) m) + 1 ≡ length (unmarked seen m)
+unfolding unmarked
+unmarked-set seen m p l h e =
+    let a = one-more (λ c. not (getD (set seen p true) c false)) (λ c. not (getD seen c false)) p
+    (ap not (getD-set-same seen p true false l))
+    (ap not e)
+    (λ c n. ap not (sym (getD-set-other seen p c true false n)))
+    m h in
+    omega arith
+
 -- ---- how many are free
 
 pub free-clear : free clear ≡ 256
@@ -36,16 +47,9 @@ pub free-le : (seen : List Bool) → free seen ≤ 256
 unfolding free unmarked
 free-le seen = keepBelow-length (λ c. not (getD seen c false)) 256
 
--- a mark takes one
 pub free-set : (seen : List Bool) (p : ℕ) → length seen ≡ 256 → p < 256 → getD seen p false ≡ false → free (set seen p true) + 1 ≡ free seen
-unfolding free unmarked
-free-set seen p l h e =
-    let a = one-more (λ c. not (getD (set seen p true) c false)) (λ c. not (getD seen c false)) p
-    (ap not (getD-set-same seen p true false (omega arith)))
-    (ap not e)
-    (λ c n. ap not (sym (getD-set-other seen p c true false n)))
-    256 h in
-    omega arith
+unfolding free
+free-set seen p l h e = unmarked-set seen 256 p (omega arith) h e
 
 -- where none of the first m is left, m marks are taken
 pub free-past : (seen : List Bool) (m : ℕ) → m ≤ 256 → length (unmarked seen m) ≡ 0 → free seen + m ≤ 256

@@ -1,9 +1,9 @@
--- `graph::search::search` meets its contract. The invariant: the search from what is reached gives the whole search's candidates; each turn but the last
--- marks a variable.
+-- `graph::search::search` meets its contract. The invariant: the search from what is reached gives the whole search's candidates, and `left` is how many checks
+-- are not reached; each turn but the last marks a variable.
 -- Assumes nothing.
-use Prim.Native.Nat.{ℕ, _≤_, _<_}
+use Prim.Native.Nat.{ℕ, _+_, _≤_, _<_}
 use mathlib.Core.Path.{_≡_, refl, ap, ap₂, _∙_, sym, subst, subst₂}
-use mathlib.Core.Bool.{true}
+use mathlib.Core.Bool.{Bool, true}
 use mathlib.Core.List.{List}
 use native.Mathlib.Omega.{arith}
 use denote.Ref.{now}
@@ -16,87 +16,84 @@ use Rattle.graph.specs.Search.{Found, layer, unmarked, clear, Reach, beg
 use Rattle.graph.specs.Rows.{free, adjacency}
 use Rattle.graph.proofs.Marks.{unmarked-clear, free-le}
 use Rattle.graph.proofs.Rows.{counts-are}
+use Rattle.graph.proofs.Found.{rest-less}
 use Rattle.graph.proofs.Breadth.{candidates, searched-picks, Going, rest-some, ends-none, ends-all, ends-last, goes-on}
 use Rattle.graph.proofs.search.search.Statement.{statement}
 use Rattle.graph.proofs.search.search.Tie as tie
 
 abbrev Inv-loop : tie.InvT-loop
-Inv-loop chk load var deg m v draw seen-c₀ seen-v₀ front₀ nc₀ rest₀ n₀ seen-c seen-v front nc rest n =
-    (n ≤ 256) × (length seen-c ≡ 256) × (length seen-v ≡ 256) × (length front ≡ 256) × (length nc ≡ 256) × (length rest ≡ 256)
+Inv-loop chk load var deg m v draw seen-c₀ seen-v₀ front₀ nc₀ n₀ left₀ seen-c seen-v front nc n left =
+    (n ≤ 256) × (length seen-c ≡ 256) × (length seen-v ≡ 256) × (length front ≡ 256) × (length nc ≡ 256) × (left ≡ length (unmarked seen-c m))
     × Going m (adjacency chk load var deg) (candidates 257 m (adjacency chk load var deg) (begin v)) (record { front = take n front; seenV = seen-v; seenC = seen-c })
 
 abbrev μ-loop : tie.MeasureT-loop
-μ-loop chk load var deg m v draw seen-c₀ seen-v₀ front₀ nc₀ rest₀ n₀ seen-c seen-v front nc rest n = free seen-v
+μ-loop chk load var deg m v draw seen-c₀ seen-v₀ front₀ nc₀ n₀ left₀ seen-c seen-v front nc n left = free seen-v
 
--- ---- after the first layer and the list of what is not reached
+-- ---- after the first layer
 
-abbrev Listed : Type 0
-Listed = tie.After-rest2 Inv-loop μ-loop
+abbrev One : Type 0
+One = tie.After-nc2 Inv-loop μ-loop
 
-abbrev S : Listed → tie.Start Inv-loop μ-loop
-S c = c .before .before .before .before .before .before .before .before .before .before .before .before .before .before .before
+abbrev S : One → tie.Start Inv-loop μ-loop
+S c = c .before .before .before .before .before .before .before .before .before .before .before
 
--- where the loop begins a turn, and where the two calls have returned
-abbrev L : Listed → tie.At-loop Inv-loop μ-loop
-L c = c .before .before .before .before .before .before .before .before .before .before
+-- where the loop begins a turn, and where the layer has returned
+abbrev L : One → tie.At-loop Inv-loop μ-loop
+L c = c .before .before .before .before .before .before
 
-abbrev F : Listed → tie.After-layer Inv-loop μ-loop
-F c = c .before .before .before .before .before .before
+abbrev F : One → tie.After-layer Inv-loop μ-loop
+F c = c .before .before
 
-abbrev U : Listed → tie.After-unmarked Inv-loop μ-loop
-U c = c .before
+-- the marks of checks, and the new checks with their part
+abbrev marks : One → List Bool
+marks c = F c .layer .last .1 .1 .1 .1 .0
 
--- the new checks, and those that are not reached, each with its part
-abbrev newPart : Listed → List ℕ
+abbrev newPart : One → List ℕ
 newPart c = F c .layer .last .1 .1 .1 .1 .1 .0
 
-abbrev restPart : Listed → List ℕ
-restPart c = U c .unmarked .last .1 .1 .0
-
-abbrev G : Listed → Adjacency
+abbrev G : One → Adjacency
 G c = adjacency (now (S c .args .chk)) (now (S c .args .load)) (now (S c .args .var)) (now (S c .args .deg))
 
-abbrev M : Listed → ℕ
+abbrev M : One → ℕ
 M c = S c .args .m
 
-abbrev D : Listed → ℕ
+abbrev D : One → ℕ
 D c = S c .args .draw
 
-abbrev W : Listed → List ℕ
+abbrev W : One → List ℕ
 W c = candidates 257 (M c) (G c) (begin (S c .args .v))
 
-abbrev R : Listed → Reach
+abbrev R : One → Reach
 R c = record { front = take (L c .loop .n) (L c .loop .front); seenV = L c .loop .seen-v; seenC = L c .loop .seen-c }
 
-going : (c : Listed) → Going (M c) (G c) (W c) (R c)
+going : (c : One) → Going (M c) (G c) (W c) (R c)
 going c = L c .loop .inv .6
 
-found : (c : Listed) → _≡_ {A = Found} (F c .layer .last .1 .1 .1 .1 .0, take (F c .layer .result) (newPart c)) (newC (G c) (R c))
+found : (c : One) → _≡_ {A = Found} (marks c, take (F c .layer .result) (newPart c)) (newC (G c) (R c))
 found c = F c .layer .ensures .same
 
-nc-long : (c : Listed) → length (newPart c) ≡ 256
+marks-long : (c : One) → length (marks c) ≡ 256
+marks-long c = F c .layer .kept .1 .1 .1 .1 .0 ∙ L c .loop .inv .1
+
+nc-long : (c : One) → length (newPart c) ≡ 256
 nc-long c = F c .layer .kept .1 .1 .1 .1 .1 .0 ∙ L c .loop .inv .4
 
-rest-long : (c : Listed) → length (restPart c) ≡ 256
-rest-long c = U c .unmarked .kept .1 .1 .0 ∙ L c .loop .inv .5
-
-k-in : (c : Listed) → F c .layer .result ≤ 256
+k-in : (c : One) → F c .layer .result ≤ 256
 k-in c = omega (arith, F c .layer .ensures .balance, free-le (L c .loop .seen-c))
 
-k-is : (c : Listed) → F c .layer .result ≡ length (newC (G c) (R c) .1)
+k-is : (c : One) → F c .layer .result ≡ length (newC (G c) (R c) .1)
 k-is c = let i = k-in c in let l = nc-long c in sym (length-take-le _ (newPart c) (omega arith)) ∙ ap (λ (f : Found). length (f .1)) (found c)
 
-rest-is : (c : Listed) → take (U c .unmarked .result) (restPart c) ≡ rest (M c) (G c) (R c)
-rest-is c = U c .unmarked .ensures .0 ∙ ap (λ (f : Found). unmarked (f .0) (M c)) (found c)
+rest-is : (c : One) → unmarked (marks c) (M c) ≡ rest (M c) (G c) (R c)
+rest-is c = ap (λ (f : Found). unmarked (f .0) (M c)) (found c)
 
-r-in : (c : Listed) → U c .unmarked .result ≤ 256
-r-in c = omega (arith, U c .unmarked .ensures .1, S c .pre .1 .1 .0)
-
-r-is : (c : Listed) → U c .unmarked .result ≡ length (rest (M c) (G c) (R c))
-r-is c = let i = r-in c in let l = rest-long c in sym (length-take-le _ (restPart c) (omega arith)) ∙ ap length (rest-is c)
+left-is : (c : One) → length (rest (M c) (G c) (R c)) + F c .layer .result ≡ L c .loop .left
+left-is c =
+    let r = rest-less (M c) 256 (G c) (R c) (S c .pre .1 .1 .1) (S c .pre .1 .1 .0 .0) (L c .loop .inv .1) in
+    omega (arith, k-is c, L c .loop .inv .5)
 
 -- a choice of the whole search's candidates is the check that it names
-names : (c : Listed) (l : List ℕ) → l ≡ W c → pickMin (nth (now (S c .args .load))) l (D c) ≡ searched 257 (M c) (G c) (D c) (begin (S c .args .v))
+names : (c : One) (l : List ℕ) → l ≡ W c → pickMin (nth (now (S c .args .load))) l (D c) ≡ searched 257 (M c) (G c) (D c) (begin (S c .args .v))
 names c l e =
     ap₂ (λ (f : ℕ → ℕ) (q : List ℕ). pickMin f q (D c)) (sym (counts-are (now (S c .args .chk)) (now (S c .args .load)) (S c .pre .0))) e
     ∙ sym (searched-picks 257 (M c) (G c) (D c) (begin (S c .args .v)))
@@ -106,7 +103,7 @@ names c l e =
 abbrev Two : Type 0
 Two = tie.After-front3 Inv-loop μ-loop
 
-abbrev T : Two → Listed
+abbrev T : Two → One
 T c = c .before .before .before .before .before .before .before .before
 
 abbrev P : Two → tie.After-layer2 Inv-loop μ-loop
@@ -135,14 +132,15 @@ array-write-seen-v c = omega arith
 
 loop-holds : tie.Need-loop-holds Inv-loop μ-loop
 loop-holds c =
-    let a = c .before .before .before .before in (
+    let a = c .before .before .before .before in
+    let u = unmarked-clear (a .args .m) (a .pre .1 .1 .0 .0) in (
       omega arith,
       refl,
       simp length-set,
       simp length-set,
       refl,
-      refl,
-      record { fuel = 257; enough = let f = free-le (set clear (a .args .v) true) in omega arith; same = refl; unreached = let u = unmarked-clear (a .args .m) (a .pre .1 .1 .0) in omega arith },
+      sym u,
+      record { fuel = 257; enough = let f = free-le (set clear (a .args .v) true) in omega arith; same = refl; unreached = omega arith },
     )
 
 slice-aggregate-layer : tie.Need-slice-aggregate-layer Inv-loop μ-loop
@@ -157,30 +155,24 @@ slice-aggregate-layer-3 c = omega arith
 layer-requires : tie.Need-layer-requires Inv-loop μ-loop
 layer-requires c κs = (c .before .before .before .before .before .before .before .before .pre .1 .0, omega arith)
 
-slice-aggregate-unmarked : tie.Need-slice-aggregate-unmarked Inv-loop μ-loop
-slice-aggregate-unmarked c = omega (arith, c .before .before .before .layer .kept .1 .1 .1 .1 .0)
+slice-aggregate-pick-unmarked : tie.Need-slice-aggregate-pick-unmarked Inv-loop μ-loop
+slice-aggregate-pick-unmarked c = sym (marks-long (c .before .before))
 
-slice-aggregate-unmarked-2 : tie.Need-slice-aggregate-unmarked-2 Inv-loop μ-loop
-slice-aggregate-unmarked-2 c = omega arith
-
-unmarked-requires : tie.Need-unmarked-requires Inv-loop μ-loop
-unmarked-requires c κs = omega (arith, c .before .before .before .before .layer .kept .1 .1 .1 .1 .0)
-
-slice-aggregate-pick-min : tie.Need-slice-aggregate-pick-min Inv-loop μ-loop
-slice-aggregate-pick-min c = sym (rest-long (c .before .before))
-
-pick-min-requires : tie.Need-pick-min-requires Inv-loop μ-loop
-pick-min-requires c κs =
+pick-unmarked-requires : tie.Need-pick-unmarked-requires Inv-loop μ-loop
+pick-unmarked-requires c κs =
     let l = c .before .before in
     let x = k-is l in
     let r = rest-some (M l) (G l) (W l) (R l) (going l) (omega arith) in
-    (omega (arith, S l .pre .0 .long), rest-long l, r-in l, omega (arith, r-is l))
+    (omega (arith, S l .pre .0 .long), marks-long l, S l .pre .1 .1 .0 .0, omega (arith, ap length (rest-is l)))
 
-slice-aggregate-pick-min-2 : tie.Need-slice-aggregate-pick-min-2 Inv-loop μ-loop
-slice-aggregate-pick-min-2 c = sym (nc-long (c .before .before .before))
+sub-left : tie.Need-sub-left Inv-loop μ-loop
+sub-left c = omega (arith, left-is (c .before))
 
-pick-min-requires-2 : tie.Need-pick-min-requires-2 Inv-loop μ-loop
-pick-min-requires-2 c κs =
+slice-aggregate-pick-min : tie.Need-slice-aggregate-pick-min Inv-loop μ-loop
+slice-aggregate-pick-min c = sym (nc-long (c .before .before .before))
+
+pick-min-requires : tie.Need-pick-min-requires Inv-loop μ-loop
+pick-min-requires c κs =
     let l = c .before .before .before in
     (omega (arith, S l .pre .0 .long), nc-long l, omega (arith, k-in l), omega arith)
 
@@ -198,13 +190,13 @@ layer-requires-2 c κs =
     let l = c .before .before .before .before .before in
     (S l .pre .0, (omega arith, omega arith, nc-long l, k-in l))
 
-slice-aggregate-pick-min-3 : tie.Need-slice-aggregate-pick-min-3 Inv-loop μ-loop
-slice-aggregate-pick-min-3 c = sym (rest-long (c .before .before .before .before .before .before .before .before .before .before))
+slice-aggregate-pick-unmarked-2 : tie.Need-slice-aggregate-pick-unmarked-2 Inv-loop μ-loop
+slice-aggregate-pick-unmarked-2 c = sym (marks-long (T (c .before .before)))
 
-pick-min-requires-3 : tie.Need-pick-min-requires-3 Inv-loop μ-loop
-pick-min-requires-3 c κs =
-    let l = c .before .before .before .before .before .before .before .before .before .before in
-    (omega (arith, S l .pre .0 .long), rest-long l, r-in l, omega arith)
+pick-unmarked-requires-2 : tie.Need-pick-unmarked-requires-2 Inv-loop μ-loop
+pick-unmarked-requires-2 c κs =
+    let l = T (c .before .before) in
+    (omega (arith, S l .pre .0 .long), marks-long l, S l .pre .1 .1 .0 .0, omega (arith, left-is l, ap length (rest-is l)))
 
 loop-less : tie.Need-loop-less Inv-loop μ-loop
 loop-less c = omega (arith, P (c .before) .layer2 .ensures .balance)
@@ -217,27 +209,27 @@ loop-again c =
     let r = c .before .before .before .before .before .before .before .if2 .left in
     let less : free (newV (G l) (R l) .0) < free (R l .seenV) = subst (λ (f : Found). free (f .0) < free (R l .seenV)) (nv t) (let n = n-is t in omega (arith, P t .layer2 .ensures .balance)) in (
       n-in t,
-      F l .layer .kept .1 .1 .1 .1 .0 ∙ L l .loop .inv .1,
+      marks-long l,
       P t .layer2 .kept .1 .1 .1 .1 .0 ∙ L l .loop .inv .2,
       front-long t,
       nc-long l,
-      rest-long l,
+      omega (arith, left-is l, ap length (rest-is l)),
       subst₂ (λ (a e : Found). Going (M l) (G l) (W l) (record { front = e .1; seenV = e .0; seenC = a .0 })) (sym (found l)) (sym (nv t))
-          (goes-on (M l) (G l) (W l) (R l) (going l) (λ e. k (k-is l ∙ e)) (λ e. r (r-is l ∙ e)) (λ e. c .if3 .left (n-is t ∙ e)) less),
+          (goes-on (M l) (G l) (W l) (R l) (going l) (λ e. k (k-is l ∙ e)) (λ e. r (omega (arith, left-is l))) (λ e. c .if3 .left (n-is t ∙ e)) less),
     )
 
 returns : tie.Need-returns Inv-loop μ-loop
 returns c =
     let l = c .before .before .before in
-    c .pick-min .ensures
+    c .pick-unmarked .ensures
     ∙ names l _ (rest-is l ∙ ends-none (M l) (G l) (W l) (R l) (going l) (sym (k-is l) ∙ c .before .before .if1 .taken))
 
 returns-2 : tie.Need-returns-2 Inv-loop μ-loop
 returns-2 c =
     let l = c .before .before .before .before in
     let k = c .before .before .before .if1 .left in
-    c .pick-min2 .ensures
-    ∙ names l _ (ap (λ (f : Found). f .1) (found l) ∙ ends-all (M l) (G l) (W l) (R l) (going l) (λ e. k (k-is l ∙ e)) (sym (r-is l) ∙ c .before .before .if2 .taken))
+    c .pick-min .ensures
+    ∙ names l _ (ap (λ (f : Found). f .1) (found l) ∙ ends-all (M l) (G l) (W l) (R l) (going l) (λ e. k (k-is l ∙ e)) (omega (arith, left-is l)))
 
 returns-3 : tie.Need-returns-3 Inv-loop μ-loop
 returns-3 c =
@@ -245,8 +237,8 @@ returns-3 c =
     let l = T t in
     let k = c .before .before .before .before .before .before .before .before .before .before .if1 .left in
     let r = c .before .before .before .before .before .before .before .before .before .if2 .left in
-    c .pick-min3 .ensures
-    ∙ names l _ (rest-is l ∙ ends-last (M l) (G l) (W l) (R l) (going l) (λ e. k (k-is l ∙ e)) (λ e. r (r-is l ∙ e)) (sym (n-is t) ∙ c .before .before .if3 .taken))
+    c .pick-unmarked2 .ensures
+    ∙ names l _ (rest-is l ∙ ends-last (M l) (G l) (W l) (R l) (going l) (λ e. k (k-is l ∙ e)) (λ e. r (omega (arith, left-is l))) (sym (n-is t) ∙ c .before .before .if3 .taken))
 
 pub search-spec : {M : Type 1} → statement M
 search-spec =
@@ -261,19 +253,17 @@ search-spec =
     slice-aggregate-layer-2
     slice-aggregate-layer-3
     layer-requires
-    slice-aggregate-unmarked
-    slice-aggregate-unmarked-2
-    unmarked-requires
+    slice-aggregate-pick-unmarked
+    pick-unmarked-requires
+    sub-left
     slice-aggregate-pick-min
     pick-min-requires
-    slice-aggregate-pick-min-2
-    pick-min-requires-2
     slice-aggregate-layer-4
     slice-aggregate-layer-5
     slice-aggregate-layer-6
     layer-requires-2
-    slice-aggregate-pick-min-3
-    pick-min-requires-3
+    slice-aggregate-pick-unmarked-2
+    pick-unmarked-requires-2
     loop-less
     loop-again
     returns
