@@ -7,6 +7,8 @@ ghost use Rattle.abi.specs.Inv.{inverted};
 ghost use Rattle.abi.specs.Draws.{Draws, advanced};
 ghost use Rattle.abi.specs.EvenDegrees.{Spread, spread};
 ghost use Rattle.abi.specs.NewCode.{Exported, exported};
+ghost use Rattle.graph.specs.Parts.{lent};
+ghost use Rattle.graph.specs.New.{lentWork};
 use field::gf;
 use field::splitmix64;
 use field::splitmix64::SplitMix64;
@@ -80,12 +82,12 @@ pub extern "C" fn hazgunek_new(
       number = r;
       edges = now (edges .exit);
       rank = now (rank .exit);
-      code = record { var = now (var .exit); coef = now (coef .exit); row = now (row .exit); start = now (start .exit); col = now (col .exit); order = now (order .exit); parity = now (parity .exit); info = now (info .exit); a = now (a .exit) };
-      work = record { chk = now (chk .exit); load = now (load .exit); own = now (own .exit); deg = now (deg .exit) };
+      code = lent (var .exit) (coef .exit) (row .exit) (start .exit) (col .exit) (order .exit) (parity .exit) (info .exit) (a .exit);
+      work = lentWork (chk .exit) (load .exit) (own .exit) (deg .exit);
     })
         (exported n m seed (now (degrees .entry)) (now (edges .entry)) (now (rank .entry))
-        (record { var = now (var .entry); coef = now (coef .entry); row = now (row .entry); start = now (start .entry); col = now (col .entry); order = now (order .entry); parity = now (parity .entry); info = now (info .entry); a = now (a .entry) })
-        (record { chk = now (chk .entry); load = now (load .entry); own = now (own .entry); deg = now (deg .entry) })) ⌝ }
+        (lent (var .entry) (coef .entry) (row .entry) (start .entry) (col .entry) (order .entry) (parity .entry) (info .entry) (a .entry))
+        (lentWork (chk .entry) (load .entry) (own .entry) (deg .entry))) ⌝ }
 {
     match graph::new(
         n,

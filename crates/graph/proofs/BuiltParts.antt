@@ -131,15 +131,21 @@ module _ (n m : ℕ) (degrees : List ℕ) (seed : ℕ) (ok : Buildable n m degre
 
   pub parts-encodable : Encodable n m varPart coefPart rowPart orderPart
   parts-encodable = record {
+    graph = record {
+      m-small = ok .m-small;
+      var-long = padded-length 512 0 (variables g) vars-fit;
+      coef-long = padded-length 512 0 (coefficients g) coefs-fit;
+      row-long = padded-length 257 0 (rowStarts g) starts-fit;
+      rise = λ c h. omega (arith, row-at c (omega arith), row-at (c + 1) (omega arith), start-more (check g) c);
+      end = omega (arith, last, few);
+      vars = λ e h. omega (arith, below e h, ok .n-small);
+    };
     n-small = ok .n-small;
-    m-small = ok .m-small;
-    var-long = padded-length 512 0 (variables g) vars-fit;
-    coef-long = padded-length 512 0 (coefficients g) coefs-fit;
-    row-long = padded-length 257 0 (rowStarts g) starts-fit;
-    order-long = padded-length 256 0 (descending n) order-fit;
-    rise = λ c h. omega (arith, row-at c (omega arith), row-at (c + 1) (omega arith), start-more (check g) c);
-    end = omega (arith, last, few);
-    vars = λ e h. let l : e < length (edges g) = omega (arith, last) in subst (λ (x : ℕ). x < n) (sym (var-at e l)) (variable-lt e l);
+    vars = below;
     coefs = λ e h. let l : e < length (edges g) = omega (arith, last) in subst (λ (x : ℕ). x < 32) (sym (coef-at e l ∙ coefficient-at e l)) (coefficient-lt (growth n m degrees seed .1) e);
+    order-long = padded-length 256 0 (descending n) order-fit;
     columns = λ t h. subst (λ (x : ℕ). x < n) (sym (order-at t h)) (descending-once n .inside t h);
   }
+    where
+      below : (e : ℕ) → e < nth rowPart m → nth varPart e < n
+      below e h = let l : e < length (edges g) = omega (arith, last) in subst (λ (x : ℕ). x < n) (sym (var-at e l)) (variable-lt e l)

@@ -5,6 +5,7 @@ use mathlib.Core.Bool.{Bool}
 use mathlib.Core.List.{List, [], _∷_, _++_}
 use lib.Dec.{ltb}
 use lib.ListN.{length}
+use denote.Ref.{RefT, now}
 use Rattle.lists.specs.AnyBelow.{anyBelow}
 use Rattle.lists.specs.Entry.{nth}
 use Rattle.lists.specs.Total.{total}
@@ -26,6 +27,10 @@ pub record Work : Type 0 where
   pub load : List ℕ
   pub own : List ℕ
   pub deg : List ℕ
+
+-- what stands in them
+abbrev pub lentWork : RefT (List ℕ) → RefT (List ℕ) → RefT (List ℕ) → RefT (List ℕ) → Work
+lentWork chk load own deg = record { chk = now chk; load = now load; own = now own; deg = now deg }
 
 abbrev pub workLengths : Work → List (ℕ × ℕ)
 workLengths w = (length (w .chk), 65536) ∷ (length (w .load), 256) ∷ (length (w .own), 65536) ∷ (length (w .deg), 256) ∷ []

@@ -5,6 +5,7 @@ use Prim.Native.Nat.{ℕ, _+_}
 use mathlib.Core.List.{List, map}
 use lib.Dec.{eqb}
 use lib.ListN.{length}
+use denote.Ref.{RefT, now}
 use Rattle.lists.specs.Entry.{nth}
 use Rattle.lists.specs.Values.{values}
 use Rattle.lists.specs.Chain.{chain, startOf}
@@ -49,6 +50,11 @@ pub record Parts : Type 0 where
   pub parity : List ℕ
   pub info : List ℕ
   pub a : List ℕ
+
+-- what stands in the parts that are lent
+abbrev pub lent : RefT (List ℕ) → RefT (List ℕ) → RefT (List ℕ) → RefT (List ℕ) → RefT (List ℕ) → RefT (List ℕ) → RefT (List ℕ) → RefT (List ℕ) → RefT (List ℕ) → Parts
+lent var coef row start col order parity info a =
+    record { var = now var; coef = now coef; row = now row; start = now start; col = now col; order = now order; parity = now parity; info = now info; a = now a }
 
 unfoldable pub parts : Graph → List ℕ → Parts
 parts g order = record {

@@ -1,11 +1,10 @@
--- How a matrix, a state of the elimination and a code stand in parts. Ours; cited by the contracts of this crate's own functions only, by no public call.
+-- How a matrix and a state of the elimination stand in parts. Ours; cited by the contracts of this crate's own functions only, by no public call.
 -- Assumes nothing.
 use mathlib.Core.Path.{_≡_}
 use mathlib.Core.List.{List}
-use Prim.Native.Nat.{ℕ, _+_, _*_, _<_, _≤_}
+use Prim.Native.Nat.{ℕ, _+_, _*_, _<_}
 use lib.Dec.{ltb}
 use lib.Bits.{bitXor}
-use lib.ListN.{length}
 use Rattle.lists.specs.Choice.{pick}
 use Rattle.lists.specs.Changed.{changed}
 use Rattle.lists.specs.Entry.{nth}
@@ -36,13 +35,3 @@ pub record Stands (m n : ℕ) (s : State) (part h parity : List ℕ) (r : ℕ) :
   pub holds : Holds m n (s .matrix) h
   pub rank : r ≡ s .rank
   pub pivots : parity ≡ laid (values r (s .pivot)) part
-
--- the parts of a graph of m checks: row starts that rise, and variables below 256
-pub record Graphed (m : ℕ) (var coef row : List ℕ) : Type 0 where
-  pub rows : m ≤ 256
-  pub var-long : length var ≡ 512
-  pub coef-long : length coef ≡ 512
-  pub row-long : length row ≡ 257
-  pub rising : (i : ℕ) → i < m → nth row i ≤ nth row (i + 1)
-  pub ends : nth row m ≤ 512
-  pub variables : (e : ℕ) → e < nth row m → nth var e < 256

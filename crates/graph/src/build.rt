@@ -4,10 +4,10 @@ ghost use Prim.Native.Nat.{ℕ};
 ghost use lib.ListN.{length, replicate};
 ghost use Rattle.lists.specs.Laid.{laid};
 ghost use Rattle.graph.specs.Graph.{edges};
-ghost use Rattle.graph.specs.Parts.{Parts, parts, variables, coefficients, rowStarts, columns, columnStarts};
+ghost use Rattle.graph.specs.Parts.{Parts, parts, lent, variables, coefficients, rowStarts, columns, columnStarts};
 ghost use Rattle.graph.specs.Descending.{descending};
 ghost use Rattle.graph.specs.Built.{built};
-ghost use Rattle.graph.specs.New.{numbers};
+ghost use Rattle.graph.specs.New.{numbers, lentWork};
 ghost use Rattle.graph.specs.Buildable.{Buildable, PartsFit, WorkFits};
 use crate::Code;
 use crate::clear;
@@ -73,7 +73,7 @@ fn build_graph(
 ) -> usize
     requires { ⌜ Buildable n m (now degrees) ⌝ }
     requires { ⌜ (length (now var) ≡ 512) × (length (now coef) ≡ 512) × (length (now row) ≡ 257) × (length (now start) ≡ 257) × (length (now col) ≡ 512) ⌝ }
-    requires { ⌜ WorkFits (record { chk = now chk; load = now load; own = now own; deg = now deg }) ⌝ }
+    requires { ⌜ WorkFits (lentWork chk load own deg) ⌝ }
     ensures { λ r. ⌜ (r ≡ length (edges (built n m (now (degrees .entry)) seed)))
         × (now (var .exit) ≡ laid (variables (built n m (now (degrees .entry)) seed)) (now (var .entry)))
         × (now (coef .exit) ≡ laid (coefficients (built n m (now (degrees .entry)) seed)) (now (coef .entry)))
@@ -111,10 +111,10 @@ pub fn build(
     deg: &mut [u16],
 ) -> Code
     requires { ⌜ Buildable n m (now degrees) ⌝ }
-    requires { ⌜ PartsFit (record { var = now var; coef = now coef; row = now row; start = now start; col = now col; order = now order; parity = now parity; info = now info; a = now a }) ⌝ }
-    requires { ⌜ WorkFits (record { chk = now chk; load = now load; own = now own; deg = now deg }) ⌝ }
+    requires { ⌜ PartsFit (lent var coef row start col order parity info a) ⌝ }
+    requires { ⌜ WorkFits (lentWork chk load own deg) ⌝ }
     ensures { λ r. ⌜ r ≡ numbers (built n m (now (degrees .entry)) seed) (descending n) ⌝ }
-    ensures { λ _. ⌜ _≡_ {A = Parts} (record { var = now (var .exit); coef = now (coef .exit); row = now (row .exit); start = now (start .exit); col = now (col .exit); order = now (order .exit); parity = now (parity .exit); info = now (info .exit); a = now (a .exit) })
+    ensures { λ _. ⌜ _≡_ {A = Parts} (lent (var .exit) (coef .exit) (row .exit) (start .exit) (col .exit) (order .exit) (parity .exit) (info .exit) (a .exit))
         (parts (built n m (now (degrees .entry)) seed) (descending n)) ⌝ }
 {
     clear_code(var, coef, row, start, col, order, parity, info, a);

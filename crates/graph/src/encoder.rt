@@ -14,9 +14,9 @@ ghost use Rattle.lists.specs.Values.{values};
 ghost use Rattle.graph.specs.Matrix.{Matrix, entryTurn, matrixOf};
 ghost use Rattle.graph.specs.Elimination.{reduced, infos};
 ghost use Rattle.graph.specs.Held.{edgesIn, held};
-ghost use Rattle.graph.specs.Encodable.{Encodable};
+ghost use Rattle.graph.specs.Encodable.{Graphed, Encodable};
 ghost use Rattle.graph.specs.Parts.{table};
-ghost use Rattle.graph.specs.Standing.{Holds, Graphed};
+ghost use Rattle.graph.specs.Standing.{Holds};
 use crate::clear::clear_u8;
 use crate::elimination::eliminate;
 

@@ -1,18 +1,19 @@
 // Codes: graph growth and elimination. The public calls of document 01 stand here; each is turned down by number and leaves its lent parts as its definition says.
 ghost use mathlib.Core.Path.{_≡_};
 ghost use Rattle.graph.specs.EvenDegrees.{EvenDegrees, evenDegrees};
-ghost use Rattle.graph.specs.New.{New, newCode};
+ghost use Rattle.graph.specs.Parts.{lent};
+ghost use Rattle.graph.specs.New.{New, newCode, lentWork};
 
-pub mod build;
-pub mod clear;
-pub mod degrees;
-pub mod edges;
+mod build;
+mod clear;
+mod degrees;
+mod edges;
 mod elimination;
-pub mod encoder;
-pub mod growth;
+mod encoder;
+mod growth;
 mod matrix_rows;
 mod pick_min;
-pub mod refusals;
+mod refusals;
 mod search;
 
 // The numbers of a code; its parts are lent beside them.
@@ -70,12 +71,12 @@ pub fn new(
 ) -> NewCode
     ensures { λ r. ⌜ _≡_ {A = New} (record {
       answer = r;
-      code = record { var = now (var .exit); coef = now (coef .exit); row = now (row .exit); start = now (start .exit); col = now (col .exit); order = now (order .exit); parity = now (parity .exit); info = now (info .exit); a = now (a .exit) };
-      work = record { chk = now (chk .exit); load = now (load .exit); own = now (own .exit); deg = now (deg .exit) };
+      code = lent (var .exit) (coef .exit) (row .exit) (start .exit) (col .exit) (order .exit) (parity .exit) (info .exit) (a .exit);
+      work = lentWork (chk .exit) (load .exit) (own .exit) (deg .exit);
     })
         (newCode n m seed (now (degrees .entry))
-        (record { var = now (var .entry); coef = now (coef .entry); row = now (row .entry); start = now (start .entry); col = now (col .entry); order = now (order .entry); parity = now (parity .entry); info = now (info .entry); a = now (a .entry) })
-        (record { chk = now (chk .entry); load = now (load .entry); own = now (own .entry); deg = now (deg .entry) })) ⌝ }
+        (lent (var .entry) (coef .entry) (row .entry) (start .entry) (col .entry) (order .entry) (parity .entry) (info .entry) (a .entry))
+        (lentWork (chk .entry) (load .entry) (own .entry) (deg .entry))) ⌝ }
 {
     let work = refusals::work_misfit(chk.len(), load.len(), own.len(), deg.len(), false);
     let code = refusals::code_misfit(

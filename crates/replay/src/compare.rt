@@ -1,4 +1,4 @@
-// Compares our answers with the list's, and prints the first that differs.
+// Compares our answers with the list's, and prints each that differs.
 ghost use mathlib.Core.Path.{_≡_};
 ghost use lib.Dec.{eqb};
 ghost use lib.ListN.{length};
@@ -27,13 +27,12 @@ pub fn compare_one(
     Outcome::Differs
 }
 
-// As many answers as the list has; `each` says what one of them is.
+// As many answers as the list has.
 pub fn compare_all(
     name: &[u8],
     line: u64,
     call: Call,
     arguments: &[u64],
-    each: &[u8],
     ours: &[u64],
     listed: &[u64],
 ) -> Outcome
@@ -44,10 +43,7 @@ pub fn compare_all(
     if k == ours.len() {
         return Outcome::Same;
     }
-    print_case(name, line, call, arguments);
-    print::text(each);
-    print::number(k as u64 + 1);
-    print::answers(ours[k], listed[k]);
+    print_differences(name, line, call, arguments, ours, listed);
     Outcome::Differs
 }
 
@@ -56,6 +52,28 @@ fn print_case(name: &[u8], line: u64, call: Call, arguments: &[u64]) {
     print::text(b": ");
     cases::print_name(call);
     print::numbers(arguments);
+}
+
+// A line for each.
+fn print_differences(
+    name: &[u8],
+    line: u64,
+    call: Call,
+    arguments: &[u64],
+    ours: &[u64],
+    listed: &[u64],
+)
+    requires { ⌜ length (now ours) ≡ length (now listed) ⌝ }
+{
+    let mut k = 0;
+    while k < ours.len() {
+        if ours[k] != listed[k] {
+            print_case(name, line, call, arguments);
+            cases::print_answer(call, k as u64 + 1);
+            print::answers(ours[k], listed[k]);
+        }
+        k += 1;
+    }
 }
 
 // The length where there is none.

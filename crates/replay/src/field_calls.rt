@@ -65,13 +65,5 @@ fn compare_draws(name: &[u8], line: u64, numbers: &[u64], ours: &mut [u64]) -> O
     requires { ⌜ length (now numbers) ≡ length (now ours) + 2 ⌝ }
 {
     splitmix64::draws(SplitMix64 { state: numbers[0] }, ours);
-    compare::compare_all(
-        name,
-        line,
-        Call::Draws,
-        &numbers[0..2],
-        b", draw ",
-        ours,
-        &numbers[2..],
-    )
+    compare::compare_all(name, line, Call::Draws, &numbers[0..2], ours, &numbers[2..])
 }

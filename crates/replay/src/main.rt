@@ -2,6 +2,7 @@
 mod cases;
 mod compare;
 mod field_calls;
+mod graph_calls;
 mod list;
 mod print;
 mod run;
@@ -10,6 +11,7 @@ mod tally;
 fn main() {
     run::replay(b"splitmix64.txt");
     run::replay(b"field.txt");
+    run::replay(b"graph.txt");
     // Wrong on purpose. What is printed of it shows that a wrong case would be seen in the others.
     run::replay(b"wrong.txt");
 }

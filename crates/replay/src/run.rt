@@ -4,6 +4,7 @@ use crate::cases::Call;
 use crate::cases::Named;
 use crate::cases::Outcome;
 use crate::field_calls;
+use crate::graph_calls;
 use crate::list;
 use crate::list::Cursor;
 use crate::print;
@@ -72,7 +73,7 @@ fn misread(name: &[u8], line: u64, words: &[u8], t: Tally) -> Tally {
     t.with_misread()
 }
 
-// The numbers stand after the call's name. No call has more than 18: a seed, a count and 16 draws.
+// The numbers stand after the call's name. No call has more than 18, as `new` and a `draws` of 16 have.
 fn replay_case(name: &[u8], line: u64, call: Call, words: &[u8], after: Cursor) -> Outcome {
     let mut numbers = [0u64; 18];
     let read = list::read_numbers(words, after, &mut numbers);
@@ -88,5 +89,7 @@ fn replay_call(name: &[u8], line: u64, call: Call, numbers: &[u64]) -> Outcome {
         Call::Mul => field_calls::mul(name, line, numbers),
         Call::Inv => field_calls::inv(name, line, numbers),
         Call::Draws => field_calls::draws(name, line, numbers),
+        Call::EvenDegrees => graph_calls::even_degrees(name, line, numbers),
+        Call::New => graph_calls::new(name, line, numbers),
     }
 }

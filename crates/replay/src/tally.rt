@@ -55,6 +55,8 @@ pub fn print_tally(name: &[u8], t: Tally) {
     print_count(name, t, Call::Mul);
     print_count(name, t, Call::Inv);
     print_count(name, t, Call::Draws);
+    print_count(name, t, Call::EvenDegrees);
+    print_count(name, t, Call::New);
     if t.all == 0 {
         print::about(name, b": no case\n");
     }

@@ -30,7 +30,7 @@ state s = reduced (graph s) (now (s .args .order))
 laws : (s : tie.Start) → Eliminated (s .args .m) (s .args .n) (nth (now (s .args .order))) (matrixOf (graph s)) (s .args .n) (state s)
 laws s =
     let w = s .pre .0 in
-    held-eliminated (s .args .n) (s .args .m) (now (s .args .var)) (now (s .args .coef)) (now (s .args .row)) (now (s .args .order)) (w .rise) (w .coefs) (w .columns)
+    held-eliminated (s .args .n) (s .args .m) (now (s .args .var)) (now (s .args .coef)) (now (s .args .row)) (now (s .args .order)) (w .graph .rise) (w .coefs) (w .columns)
 
 -- it stands in the parts
 standing : (c : tie.After-eliminate) → let s = c .before .before .before .before .before .before .before .before .before .before .before .before .before .before .before in
@@ -51,18 +51,7 @@ positions c =
 matrix-requires : tie.Need-matrix-requires
 matrix-requires c κs =
     let s = c .before .before .before .before .before .before .before .before .before in
-    let w = s .pre .0 in (
-      record {
-        rows = w .m-small;
-        var-long = w .var-long;
-        coef-long = w .coef-long;
-        row-long = w .row-long;
-        rising = w .rise;
-        ends = w .end;
-        variables = λ e h. omega (arith, w .vars e h, w .n-small);
-      },
-      s .pre .1 .0,
-    )
+    (s .pre .0 .graph, s .pre .1 .0)
 
 eliminate-requires : tie.Need-eliminate-requires
 eliminate-requires c κs = search needs
@@ -72,7 +61,7 @@ info-positions-requires c κs =
     let s = c .before .before .before .before .before .before .before .before .before .before .before .before .before .before .before .before .before .before .before .before .before in
     let r = standing (c .before .before .before .before .before .before) .rank in
     let h = laws s .rank-rows in
-    (s .pre .0 .n-small, s .pre .1 .2, omega (arith, s .pre .0 .m-small, s .pre .1 .1))
+    (s .pre .0 .n-small, s .pre .1 .2, omega (arith, s .pre .0 .graph .m-small, s .pre .1 .1))
 
 table-requires : tie.Need-table-requires
 table-requires c κs =
@@ -83,7 +72,7 @@ table-requires c κs =
     let e = infos-count (laws s) in
     let k = q .0 in
     let r = w .rank in
-    let m = s .pre .0 .m-small in
+    let m = s .pre .0 .graph .m-small in
     let n = s .pre .0 .n-small in (
       (omega arith, omega arith, c .before .before .before .before .before .before .before .before .before .before .before .before .eliminate .kept .1 .1 .1 .0 ∙ c .before .before .before .before .before .before .before .before .before .before .before .before .before .before .before .before .before .matrix .kept .1 .1 .1 .1 .0 ∙ s .pre .1 .0, c .before .before .before .before .before .info-positions .kept .1 .1 .1 .0 ∙ s .pre .1 .2, s .pre .1 .3, rw (r, k) (table-fits (laws s) n)),
       λ t l. omega (arith, info-below w h (c .before .before .before .before .before .info-positions .result) (c .before .before .before .before .before .info-positions .last .1 .1 .1 .0) (now (s .args .info)) k (q .1) t l),

@@ -22,18 +22,18 @@ abbrev μ-loop : tie.MeasureT-loop
 
 -- a check's edges end where the last one's do, or before
 ends : (s : tie.Start Inv-loop μ-loop) (i : ℕ) → i ≤ s .args .m → nth (now (s .args .row)) i ≤ nth (now (s .args .row)) (s .args .m)
-ends s i h = rises (s .args .m) (nth (now (s .args .row))) (s .pre .0 .rising) i (s .args .m) h (le-refl (s .args .m))
+ends s i h = rises (s .args .m) (nth (now (s .args .row))) (s .pre .0 .rise) i (s .args .m) h (le-refl (s .args .m))
 
 loop-holds : tie.Need-loop-holds Inv-loop μ-loop
 loop-holds c =
     let s = c .before .before .before .before .before .before .before .before in
-    (omega arith, omega arith, λ n hn. matrix-start (s .args .m) n (now (s .args .var)) (now (s .args .coef)) (now (s .args .row)) (length (now (s .args .h))) (s .pre .1) (c .before .before .clear-u8 .ensures) (s .pre .0 .rows) hn)
+    (omega arith, omega arith, λ n hn. matrix-start (s .args .m) n (now (s .args .var)) (now (s .args .coef)) (now (s .args .row)) (length (now (s .args .h))) (s .pre .1) (c .before .before .clear-u8 .ensures) (s .pre .0 .m-small) hn)
 
 cast-from : tie.Need-cast-from Inv-loop μ-loop
-cast-from c = omega (arith, ends (c .before .before .before .before .before .before .before .before .before .before .before) (c .before .before .loop .i) (c .before .before .loop .inv .0), c .before .before .before .before .before .before .before .before .before .before .before .pre .0 .ends)
+cast-from c = omega (arith, ends (c .before .before .before .before .before .before .before .before .before .before .before) (c .before .before .loop .i) (c .before .before .loop .inv .0), c .before .before .before .before .before .before .before .before .before .before .before .pre .0 .end)
 
 cast-to : tie.Need-cast-to Inv-loop μ-loop
-cast-to c = omega (arith, ends (c .before .before .before .before .before .before .before .before .before .before .before .before) (c .before .before .before .loop .i + 1) (omega arith), c .before .before .before .before .before .before .before .before .before .before .before .before .pre .0 .ends)
+cast-to c = omega (arith, ends (c .before .before .before .before .before .before .before .before .before .before .before .before) (c .before .before .before .loop .i + 1) (omega arith), c .before .before .before .before .before .before .before .before .before .before .before .before .pre .0 .end)
 
 add-check-requires : tie.Need-add-check-requires Inv-loop μ-loop
 add-check-requires c κs =
@@ -42,8 +42,8 @@ add-check-requires c κs =
     let h = c .before .before .before .loop-test .taken in
     let e = ends s (l .i + 1) (omega arith) in
     let g = s .pre .0 in (
-      (l .inv .1, omega (arith, g .rows), g .var-long, g .coef-long, g .rising (l .i) h, omega (arith, g .ends)),
-      λ k b. g .variables k (omega arith),
+      (l .inv .1, omega (arith, g .m-small), g .var-long, g .coef-long, g .rise (l .i) h, omega (arith, g .end)),
+      λ k b. g .vars k (omega arith),
     )
 
 loop-again : tie.Need-loop-again Inv-loop μ-loop

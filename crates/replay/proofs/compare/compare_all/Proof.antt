@@ -8,13 +8,12 @@ use Rattle.replay.proofs.compare.compare_all.Tie as tie
 
 returns : tie.Need-returns
 returns c =
-    let start = c .before .before .before .before .before .before .before in
+    let start = c .before .before .before .before .before .before in
     record { same = λ _. refl; differs = λ no. absurd (no (lists-same (c .before .first-difference .ensures) (start .pre) (c .if1 .taken))) }
 
 returns-2 : tie.Need-returns-2
 returns-2 c =
-    let branch = c .before .before .before .before .before .before in
-    record { same = λ e. absurd (lists-differ (branch .before .first-difference .ensures) (branch .if1 .left) e); differs = λ _. refl }
+    record { same = λ e. absurd (lists-differ (c .before .before .first-difference .ensures) (c .before .if1 .left) e); differs = λ _. refl }
 
 pub compare-all-spec : {M : Type 1} → statement M
 compare-all-spec =
@@ -22,13 +21,5 @@ compare-all-spec =
     (tie.spec
     (λ c κs. search needs)
     returns
-    (λ c κs. search needs)
-    (λ c κs. search needs)
-    (λ c. search needs)
-    (λ c κs. search needs)
-    (λ c. search needs)
-    (λ c. search needs)
-    (λ c. search needs)
-    (λ c. search needs)
     (λ c κs. search needs)
     returns-2)
