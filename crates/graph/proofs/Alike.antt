@@ -27,7 +27,7 @@ use Rattle.lists.proofs.Lowest.{lowest-is, lowest-ext}
 use Rattle.lists.proofs.Values.{values-ext, map-entries}
 use Rattle.field.specs.Field.{product, inverse}
 use Rattle.graph.specs.Matrix.{Matrix}
-use Rattle.graph.specs.Elimination.{scaled, swapped, cleared, State, pivotRow, pivoted, visited, eliminated, infos}
+use Rattle.graph.specs.Elimination.{scaled, swapped, cleared, State, pivotRow, pivoted, columnTurn, eliminated, infos}
 use Rattle.graph.specs.Parts.{table}
 use Rattle.graph.proofs.Swapped.{swapped-r, swapped-p, swapped-other}
 use Rattle.graph.proofs.Infos.{info-inside}
@@ -35,7 +35,7 @@ use Rattle.graph.proofs.Infos.{info-inside}
 pub eliminated-order : (m n : ℕ) (f g : ℕ → ℕ) (h : Matrix) → ((t : ℕ) → t < n → f t ≡ g t) → eliminated m f h n ≡ eliminated m g h n
 unfolding eliminated
 eliminated-order m n f g h e =
-    iter-ext n (λ t s. visited m (f t) s) (λ t s. visited m (g t) s) (record { matrix = h; rank = 0; pivot = λ _. 0 }) (λ t l s. ap (λ (c : ℕ). visited m c s) (e t l))
+    iter-ext n (λ t s. columnTurn m (f t) s) (λ t s. columnTurn m (g t) s) (record { matrix = h; rank = 0; pivot = λ _. 0 }) (λ t l s. ap (λ (c : ℕ). columnTurn m c s) (e t l))
 
 -- two states with the same rank and pivots, and the same entries in m rows and n columns
 pub record Alike (m n : ℕ) (s t : State) : Type 0 where
@@ -86,9 +86,9 @@ module _ (m n c : ℕ) (s t : State) (hc : c < n) (w : Alike m n s t) where
   unfolding pivotRow
   from = lowest-is (λ i. not (eqb (s .matrix i c) 0)) (m - s .rank) (s .rank) .from
 
-  visited-alike : Alike m n (visited m c s) (visited m c t)
-  unfolding visited
-  visited-alike =
+  columnTurn-alike : Alike m n (columnTurn m c s) (columnTurn m c t)
+  unfolding columnTurn
+  columnTurn-alike =
       ⊎-elim
       (λ l. rw (pick-less p m (pivoted c p s) s l, pick-less q m (pivoted c q t) t (rw row-same at l), ← row-same) (pivoted-alike p (omega (arith, from)) l))
       (λ l. rw (pick-not-less p m (pivoted c p s) s l, pick-not-less q m (pivoted c q t) t (rw row-same at l)) w)
@@ -107,7 +107,7 @@ pub eliminated-alike : (m n : ℕ) (order : ℕ → ℕ) (h g : Matrix) → ((t 
 unfolding eliminated iter
 eliminated-alike m n order h g inside e zero l = record { rank = refl; pivot = refl; same = e }
 eliminated-alike m n order h g inside e (suc k) l =
-    visited-alike m n (order k) (eliminated m order h k) (eliminated m order g k) (inside k l) (eliminated-alike m n order h g inside e k (omega arith))
+    columnTurn-alike m n (order k) (eliminated m order h k) (eliminated m order g k) (inside k l) (eliminated-alike m n order h g inside e k (omega arith))
 
 module _ {m n : ℕ} {s t : State} (w : Alike m n s t) where
   pub infos-alike : infos n s ≡ infos n t

@@ -1,5 +1,5 @@
 -- What elimination gives, for every matrix of field elements and every order of its columns: the same solutions, a unit vector in each pivot column,
--- and 0 below the rank in each column visited.
+-- and 0 below the rank in each column columnTurn.
 -- Assumes nothing.
 use mathlib.Core.Path.{_≡_, ap, _∙_}
 use mathlib.Core.Logic.{_≢_, _⊎_, ⊎-elim, _↔_}
@@ -16,12 +16,12 @@ use Rattle.lists.proofs.Changed.{changed-at, changed-other}
 use Rattle.lists.proofs.Iter.{iter-keeps}
 use Rattle.lists.proofs.Lowest.{IsLowest, lowest-is}
 use Rattle.graph.specs.Matrix.{Matrix}
-use Rattle.graph.specs.Elimination.{swapped, cleared, State, pivotRow, pivoted, visited, eliminated}
+use Rattle.graph.specs.Elimination.{swapped, cleared, State, pivotRow, pivoted, columnTurn, eliminated}
 use Rattle.graph.specs.Solutions.{Solves}
 use Rattle.graph.proofs.Swapped.{swapped-each, swapped-r, swapped-other, swapped-solves}
 use Rattle.graph.proofs.Cleared.{cleared-lt, cleared-keep, cleared-one, cleared-zero, cleared-solves}
 
--- k columns of the order are visited
+-- k columns of the order are columnTurn
 pub record Eliminated (m n : ℕ) (order : ℕ → ℕ) (h : Matrix) (k : ℕ) (s : State) : Type 0 where
   pub small : (i j : ℕ) → s .matrix i j < 32
   pub rank-rows : s .rank ≤ m
@@ -30,7 +30,7 @@ pub record Eliminated (m n : ℕ) (order : ℕ → ℕ) (h : Matrix) (k : ℕ) (
   -- a pivot column is a unit vector
   pub one : (i : ℕ) → i < s .rank → s .matrix i (s .pivot i) ≡ 1
   pub unit : (i l : ℕ) → i < s .rank → l < m → l ≢ i → s .matrix l (s .pivot i) ≡ 0
-  -- rows past the rank are 0 in the columns visited
+  -- rows past the rank are 0 in the columns columnTurn
   pub past : (t l : ℕ) → t < k → s .rank ≤ l → l < m → s .matrix l (order t) ≡ 0
 
 -- ---- a column with a pivot
@@ -124,9 +124,9 @@ module _ (m n : ℕ) (order : ℕ → ℕ) (h₀ : Matrix) (k : ℕ) (s : State)
     past = λ t l a b d. ⊎-elim (λ e. rw e (z l b d)) (λ q. w .past t l (omega (arith, q)) b d) (same-or-not t k);
   }
 
-  visited-is : order k < n → Eliminated m n order h₀ (suc k) (visited m (order k) s)
-  unfolding visited pivotRow
-  visited-is inside =
+  columnTurn-is : order k < n → Eliminated m n order h₀ (suc k) (columnTurn m (order k) s)
+  unfolding columnTurn pivotRow
+  columnTurn-is inside =
       ⊎-elim
       (λ l. rw (pick-less p m (pivoted (order k) p s) s l) (pivoted-is m n order h₀ k s w p (low .from) l (found l) inside))
       (λ l. rw (pick-not-less p m (pivoted (order k) p s) s l) (passed-is (λ i a b. none i a (omega arith))))
@@ -148,7 +148,7 @@ pub eliminated-is : (m n : ℕ) (order : ℕ → ℕ) (h : Matrix) → ((t : ℕ
     → (k : ℕ) → k ≤ n → Eliminated m n order h k (eliminated m order h k)
 unfolding eliminated
 eliminated-is m n order h inside small k l =
-    iter-keeps (Eliminated m n order h) k (λ t s. visited m (order t) s) (record { matrix = h; rank = 0; pivot = λ _. 0 })
+    iter-keeps (Eliminated m n order h) k (λ t s. columnTurn m (order t) s) (record { matrix = h; rank = 0; pivot = λ _. 0 })
     (record {
       small = small;
       rank-rows = omega arith;
@@ -158,4 +158,4 @@ eliminated-is m n order h inside small k l =
       unit = λ i l a. absurd (not-suc-le-zero a);
       past = λ t l a. absurd (not-suc-le-zero a);
     })
-    (λ t a s w. visited-is m n order h t s w (inside t (omega arith)))
+    (λ t a s w. columnTurn-is m n order h t s w (inside t (omega arith)))

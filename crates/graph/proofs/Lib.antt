@@ -22,7 +22,7 @@ pub mod Infos
 pub mod Alike
 pub mod Columns
 pub mod Clearing
-pub mod Visited
+pub mod ColumnTurn
 pub mod Checks
 pub mod Entries
 pub mod Reduced

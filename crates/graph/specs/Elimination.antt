@@ -49,12 +49,12 @@ pivoted c p s = record {
 }
 
 -- column c: passed over where no row is found
-unfoldable pub visited : ℕ → ℕ → State → State
-visited m c s = pick (ltb (pivotRow m c s) m) (pivoted c (pivotRow m c s) s) s
+unfoldable pub columnTurn : ℕ → ℕ → State → State
+columnTurn m c s = pick (ltb (pivotRow m c s) m) (pivoted c (pivotRow m c s) s) s
 
 -- the first k columns of the order, of a matrix of m rows
 unfoldable pub eliminated : ℕ → (ℕ → ℕ) → Matrix → ℕ → State
-eliminated m order h k = iter k (λ t s. visited m (order t) s) (record { matrix = h; rank = 0; pivot = λ _. 0 })
+eliminated m order h k = iter k (λ t s. columnTurn m (order t) s) (record { matrix = h; rank = 0; pivot = λ _. 0 })
 
 -- of a graph, all columns
 unfoldable pub reduced : Graph → List ℕ → State

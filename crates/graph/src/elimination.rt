@@ -5,7 +5,7 @@ ghost use Prim.Native.Nat.{ℕ, _<_, _≤_};
 ghost use lib.ListN.{length};
 ghost use Rattle.lists.specs.Entry.{nth};
 ghost use Rattle.graph.specs.Matrix.{Matrix};
-ghost use Rattle.graph.specs.Elimination.{State, cleared, visited, eliminated};
+ghost use Rattle.graph.specs.Elimination.{State, cleared, columnTurn, eliminated};
 ghost use Rattle.graph.specs.Standing.{Holds, Stands, plusRow, rowsCleared};
 use crate::matrix_rows::add_row;
 use crate::matrix_rows::find_row;
@@ -50,7 +50,7 @@ fn clear_column(h: &mut [u8], n: usize, m: usize, r: usize, c: usize)
 // Column c: its pivot, if it has one, goes to row r. Answers the rank after it.
 fn pivot_column(h: &mut [u8], parity: &mut [u16], n: usize, m: usize, r: usize, c: usize) -> usize
     requires { ⌜ (length (now h) ≡ 65536) × (length (now parity) ≡ 256) × (n ≤ 256) × (m ≤ 256) × (c < n) ⌝ }
-    ensures { λ k. ⌜ ((s : State) (part : List ℕ) → length part ≡ 256 → Stands m n s part (now (h .entry)) (now (parity .entry)) r → Stands m n (visited m c s) part (now (h .exit)) (now (parity .exit)) k) ⌝ }
+    ensures { λ k. ⌜ ((s : State) (part : List ℕ) → length part ≡ 256 → Stands m n s part (now (h .entry)) (now (parity .entry)) r → Stands m n (columnTurn m c s) part (now (h .exit)) (now (parity .exit)) k) ⌝ }
 {
     let p = find_row(h, n, m, r, c);
     if p < m {

@@ -9,7 +9,7 @@ use Rattle.lists.specs.Entry.{nth}
 use Rattle.graph.specs.Matrix.{Matrix}
 use Rattle.graph.specs.Elimination.{eliminated}
 use Rattle.graph.specs.Standing.{Holds, Stands}
-use Rattle.graph.proofs.Visited.{stands-start, eliminated-more}
+use Rattle.graph.proofs.ColumnTurn.{stands-start, eliminated-more}
 use Rattle.graph.proofs.elimination.eliminate.Statement.{statement}
 use Rattle.graph.proofs.elimination.eliminate.Tie as tie
 

@@ -9,7 +9,7 @@ use lib.Dec.{eqb}
 use Rattle.lists.proofs.Lowest.{lowest-is}
 use Rattle.graph.specs.Elimination.{swapped}
 use Rattle.graph.proofs.Columns.{flat, holds-flat}
-use Rattle.graph.proofs.Visited.{visited-none, visited-some}
+use Rattle.graph.proofs.ColumnTurn.{columnTurn-none, columnTurn-some}
 use Rattle.graph.proofs.elimination.pivot_column.Statement.{statement}
 use Rattle.graph.proofs.elimination.pivot_column.Tie as tie
 
@@ -53,7 +53,7 @@ returns c =
     let p = c .before .before .before .before .before .before .before .before .before .find-row .result in
     let l = rank-below (c .before .before .before .before .before .before .before .before) in
     λ s part e w.
-    visited-some (a .m) (a .n) (a .c) s part (now (a .h)) (now (a .parity)) (a .r) p w (c .before .before .before .before .before .before .before .before .before .find-row .ensures (s .matrix) (w .holds)) (c .before .before .before .before .before .before .before .before .if1 .taken) (omega arith)
+    columnTurn-some (a .m) (a .n) (a .c) s part (now (a .h)) (now (a .parity)) (a .r) p w (c .before .before .before .before .before .before .before .before .before .find-row .ensures (s .matrix) (w .holds)) (c .before .before .before .before .before .before .before .before .if1 .taken) (omega arith)
     (c .before .before .clear-column .last .0)
     (c .before .before .clear-column .ensures (swapped (a .r) p (s .matrix)) (c .before .before .before .before .before .before .swap-rows .ensures (a .m) (s .matrix) l (c .before .before .before .before .before .before .before .before .if1 .taken) (w .holds)))
 
@@ -64,7 +64,7 @@ returns-2 : tie.Need-returns-2
 returns-2 c =
     let a = c .before .before .before .before .before .args in
     λ s part e w.
-    visited-none (a .m) (a .n) (a .c) s part (now (a .h)) (now (a .parity)) (a .r) (c .before .find-row .result) w (c .before .find-row .ensures (s .matrix) (w .holds)) (c .if1 .left)
+    columnTurn-none (a .m) (a .n) (a .c) s part (now (a .h)) (now (a .parity)) (a .r) (c .before .find-row .result) w (c .before .find-row .ensures (s .matrix) (w .holds)) (c .if1 .left)
 
 pub pivot-column-spec : {M : Type 1} → statement M
 pivot-column-spec =

@@ -19,7 +19,7 @@ use Rattle.lists.proofs.Iter.{iter-more}
 use Rattle.lists.proofs.Laid.{laid-start, laid-on}
 use Rattle.lists.proofs.Values.{values-length, values-more, values-ext}
 use Rattle.graph.specs.Matrix.{Matrix}
-use Rattle.graph.specs.Elimination.{State, swapped, cleared, pivotRow, pivoted, visited, eliminated}
+use Rattle.graph.specs.Elimination.{State, swapped, cleared, pivotRow, pivoted, columnTurn, eliminated}
 use Rattle.graph.specs.Standing.{Holds, Stands}
 
 module _ (m n c : ℕ) (s : State) (part l ps : List ℕ) (r p : ℕ) (w : Stands m n s part l ps r) (low : p ≡ lowest (λ i. not (eqb (s .matrix i c) 0)) (m - r) r) where
@@ -27,9 +27,9 @@ module _ (m n c : ℕ) (s : State) (part l ps : List ℕ) (r p : ℕ) (w : Stand
   unfolding pivotRow
   row = sym (low ∙ ap (λ (x : ℕ). lowest (λ i. not (eqb (s .matrix i c) 0)) (m - x) x) (w .rank))
 
-  pub visited-none : m ≤ p → Stands m n (visited m c s) part l ps r
-  unfolding visited
-  visited-none h = rw (pick-not-less (pivotRow m c s) m (pivoted c (pivotRow m c s) s) s (rw row h)) w
+  pub columnTurn-none : m ≤ p → Stands m n (columnTurn m c s) part l ps r
+  unfolding columnTurn
+  columnTurn-none h = rw (pick-not-less (pivotRow m c s) m (pivoted c (pivotRow m c s) s) s (rw row h)) w
 
   pivots-on : r < length part → set ps r c ≡ laid (values (r + 1) (changed (s .pivot) (s .rank) c)) part
   pivots-on h =
@@ -42,9 +42,9 @@ module _ (m n c : ℕ) (s : State) (part l ps : List ℕ) (r p : ℕ) (w : Stand
       old : values r f ≡ values r (s .pivot)
       old = values-ext r f (s .pivot) 0 (λ k h. changed-other (s .pivot) (s .rank) c k (λ e. omega (arith, w .rank)))
 
-  pub visited-some : p < m → r < length part → (k : List ℕ) → Holds m n (cleared r c (swapped r p (s .matrix))) k → Stands m n (visited m c s) part k (set ps r c) (r + 1)
-  unfolding visited pivoted
-  visited-some h b k v =
+  pub columnTurn-some : p < m → r < length part → (k : List ℕ) → Holds m n (cleared r c (swapped r p (s .matrix))) k → Stands m n (columnTurn m c s) part k (set ps r c) (r + 1)
+  unfolding columnTurn pivoted
+  columnTurn-some h b k v =
       rw (pick-less (pivotRow m c s) m (pivoted c (pivotRow m c s) s) s (rw row h), row)
       (record { holds = rw (w .rank) at v; rank = add-one r ∙ ap suc (w .rank); pivots = pivots-on b })
 
@@ -54,6 +54,6 @@ pub stands-start : (m n : ℕ) (order : ℕ → ℕ) (g : Matrix) (part l : List
 unfolding eliminated iter values
 stands-start m n order g part l w = record { holds = w; rank = refl; pivots = laid-start part }
 
-pub eliminated-more : (m : ℕ) (order : ℕ → ℕ) (g : Matrix) (k : ℕ) → eliminated m order g (k + 1) ≡ visited m (order k) (eliminated m order g k)
+pub eliminated-more : (m : ℕ) (order : ℕ → ℕ) (g : Matrix) (k : ℕ) → eliminated m order g (k + 1) ≡ columnTurn m (order k) (eliminated m order g k)
 unfolding eliminated
-eliminated-more m order g k = iter-more k (λ t s. visited m (order t) s) (record { matrix = g; rank = 0; pivot = λ _. 0 })
+eliminated-more m order g k = iter-more k (λ t s. columnTurn m (order t) s) (record { matrix = g; rank = 0; pivot = λ _. 0 })
