@@ -2,10 +2,9 @@
 -- Assumes nothing.
 use mathlib.Core.Path.{_≡_, refl, sym, ap, ap₂, _∙_}
 use mathlib.Core.Logic.{_≢_, _⊎_, inl, inr, ⊎-elim}
-use mathlib.Core.Bool.{Bool, not}
+use mathlib.Core.Bool.{not}
 use mathlib.Core.List.{List, map}
-use Prim.Native.Nat.{ℕ, zero, suc, _+_, _-_, _<_, _≤_}
-use native.Mathlib.Nat.{le-refl}
+use Prim.Native.Nat.{ℕ, zero, suc, _-_, _<_, _≤_}
 use native.Mathlib.Omega.{arith}
 use lib.Dec.{eqb}
 use lib.Bits.{bitXor}
@@ -18,7 +17,6 @@ use Rattle.lists.specs.Choice.{pick}
 use Rattle.lists.specs.Entry.{nth}
 use Rattle.lists.specs.Keep.{keepBelow}
 use Rattle.lists.specs.Lowest.{lowest}
-use Rattle.lists.specs.Values.{values}
 use Rattle.lists.proofs.Cases.{same-or-not, less-or-not}
 use Rattle.lists.proofs.Chain.{chain-ext}
 use Rattle.lists.proofs.Choice.{pick-less, pick-not-less}

@@ -1,11 +1,11 @@
 -- A cleared table holds no entries.
 -- Assumes nothing.
-use Prim.Native.Nat.{ℕ, _<_, _≤_}
+use Prim.Native.Nat.{ℕ}
 use mathlib.Core.Path.{_≡_, ap, _∙_}
 use mathlib.Core.List.{List}
 use mathlib.Core.Logic.{⊎-elim}
 use native.Mathlib.Omega.{arith}
-use lib.ListN.{length, getD, replicate, length-replicate, getD-replicate, List·getD-eq-default}
+use lib.ListN.{length, replicate, length-replicate, getD-replicate, List·getD-eq-default}
 use Rattle.lists.specs.Entry.{nth}
 use Rattle.lists.proofs.Cases.{less-or-not}
 use Rattle.graph.specs.Rows.{Table}

@@ -1,9 +1,8 @@
 -- What `built` gives, in the terms in which the code lays it out: the variables of all checks one after another, and a coefficient for each.
 -- Assumes nothing.
 use Prim.Native.Nat.{ℕ, _+_, _<_, _≤_}
-use mathlib.Core.Path.{_≡_, refl, ap, ap₂, sym, _∙_}
+use mathlib.Core.Path.{_≡_, refl, ap, sym, _∙_}
 use mathlib.Core.List.{List, [], map}
-use native.Mathlib.Nat.{le-refl, le-trans}
 use native.Mathlib.Omega.{arith}
 use lib.ListN.{length, getD, length-map}
 use Rattle.lists.specs.Entry.{nth}
@@ -12,9 +11,9 @@ use Rattle.lists.specs.Chain.{chain, startOf}
 use Rattle.lists.proofs.Values.{values-length, values-at, values-ext, values-own, map-values}
 use Rattle.lists.specs.Total.{total}
 use Rattle.lists.proofs.Chain.{chain-ext, map-chain, chain-values, chain-length, start-is, start-lengths}
-use Rattle.graph.specs.Graph.{Edge, Graph, checkCount, check, edges}
+use Rattle.graph.specs.Graph.{Edge, checkCount, check, edges}
 use Rattle.graph.specs.Parts.{variables, coefficients, rowStarts, places, columns, columnStarts}
-use Rattle.graph.specs.Adjacency.{Adjacency, empty}
+use Rattle.graph.specs.Adjacency.{empty}
 use Rattle.graph.specs.Growth.{Growth, grown}
 use Rattle.graph.specs.Coefficients.{coefficient, weighted}
 use Rattle.graph.specs.Built.{weightedChecks, built}

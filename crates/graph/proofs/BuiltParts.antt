@@ -1,15 +1,14 @@
 -- The parts of a built code: they hold its graph, elimination may be run on them, and it gives the same in the part's order as in the definition's.
 -- Assumes nothing.
-use Prim.Native.Nat.{ℕ, zero, suc, _+_, _-_, _%_, _<_, _≤_}
-use mathlib.Core.Path.{_≡_, refl, ap, ap₂, sym, _∙_, subst}
+use Prim.Native.Nat.{ℕ, _+_, _-_, _%_, _<_, _≤_}
+use mathlib.Core.Path.{_≡_, ap, ap₂, sym, _∙_, subst}
 use mathlib.Core.List.{List}
 use native.Mathlib.Nat.{mod-lt}
 use native.Mathlib.Omega.{arith}
 use lib.Dec.{lit<}
 use lib.ListN.{length, length-map}
 use Rattle.lists.specs.Entry.{nth}
-use Rattle.lists.specs.Values.{values}
-use Rattle.lists.specs.Chain.{chain, startOf}
+use Rattle.lists.specs.Chain.{startOf}
 use Rattle.lists.specs.EachOnce.{EachOnce}
 use Rattle.lists.proofs.Values.{values-length, values-at}
 use Rattle.lists.proofs.Chain.{start-more, chain-each}
@@ -27,7 +26,7 @@ use Rattle.graph.specs.Buildable.{Buildable}
 use Rattle.graph.specs.Encodable.{Encodable}
 use Rattle.graph.proofs.Held.{held-is}
 use Rattle.graph.proofs.Reduced.{reduced-order}
-use Rattle.graph.proofs.Built.{growth, grownChk, built-n, built-m, built-variables, built-coefficients, built-starts, built-count, built-row-starts, built-well, grown-few}
+use Rattle.graph.proofs.Built.{growth, grownChk, built-n, built-m, built-variables, built-coefficients, built-starts, built-count, built-well, grown-few}
 
 -- ---- the order
 

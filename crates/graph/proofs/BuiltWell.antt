@@ -1,22 +1,19 @@
 -- What the layers above may count on of a graph that `new` builds.
 -- Assumes nothing.
-use Prim.Native.Nat.{ℕ, _+_, _%_, _<_, _≤_}
-use mathlib.Core.Path.{_≡_, refl, ap, sym, _∙_, subst, subst₂}
-use mathlib.Core.List.{List, []}
+use Prim.Native.Nat.{ℕ, _+_, _<_}
+use mathlib.Core.Path.{_≡_, ap, sym, _∙_, subst, subst₂}
+use mathlib.Core.List.{List}
 use native.Mathlib.Omega.{arith}
 use lib.ListN.{length, getD}
 use Rattle.lists.specs.Entry.{nth}
-use Rattle.lists.specs.Values.{values}
-use Rattle.lists.specs.Chain.{chain, startOf}
+use Rattle.lists.specs.Chain.{startOf}
 use Rattle.lists.specs.Times.{times}
 use Rattle.lists.specs.Total.{total}
-use Rattle.lists.proofs.Values.{values-at}
 use Rattle.lists.proofs.Total.{total-ext}
 use Rattle.lists.proofs.Times.{times-has, times-chain, total-times}
-use Rattle.field.specs.SplitMix64.{draw, after}
 use Rattle.graph.specs.Graph.{Edge, Graph, checkCount, check, edges}
 use Rattle.graph.specs.Parts.{variables, coefficients, places}
-use Rattle.graph.specs.Coefficients.{coefficient, weighted}
+use Rattle.graph.specs.Coefficients.{coefficient}
 use Rattle.graph.specs.Matrix.{matrixOf}
 use Rattle.graph.specs.Elimination.{reduced}
 use Rattle.graph.specs.Descending.{descending}

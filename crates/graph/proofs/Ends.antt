@@ -1,24 +1,21 @@
 -- The three ends of the call new: by a number that touches nothing, by a later one, and with a code.
 -- Assumes nothing.
-use Prim.Native.Nat.{ℕ, _<_, _≤_}
-use mathlib.Core.Path.{_≡_, refl, ap, sym, _∙_}
+use Prim.Native.Nat.{ℕ}
+use mathlib.Core.Path.{_≡_, refl}
 use mathlib.Core.Bool.{Bool, true, false}
 use mathlib.Core.List.{List, [], _∷_}
 use mathlib.Core.Logic.{_≢_}
-use native.Mathlib.Omega.{arith}
 use borrow.Author.Tests.{ltb-false}
-use lib.Dec.{eqb, ltb}
+use lib.Dec.{ltb}
 use lib.ListN.{length, replicate}
-use Rattle.lists.specs.AnyBelow.{anyBelow}
 use Rattle.lists.specs.Entry.{nth}
 use Rattle.lists.specs.Total.{total}
 use Rattle.lists.proofs.AnyBelow.{anyBelow-not}
 use Rattle.lists.proofs.Cases.{neither}
 use Rattle.calls.specs.Refusal.{refusal, misfits, misfit}
-use Rattle.calls.specs.Parts.{touchesNothing, answered, worked, written}
+use Rattle.calls.specs.Parts.{touchesNothing}
 use Rattle.calls.proofs.Refusal.{pass, alike}
 use Rattle.calls.proofs.Parts.{refused, found, untouched, zeroed, kept, put}
-use Rattle.graph.specs.declared.NewCode.{NewCode}
 use Rattle.graph.specs.declared.NewCode.the-variants.{Built, Refused}
 use Rattle.graph.specs.Sizes.{tooLarge, codeLengths}
 use Rattle.graph.specs.Parts.{Parts, parts}

@@ -1,14 +1,13 @@
 -- What parts hold a graph: its edges' variables and coefficients at their places, and its row starts.
 -- Assumes nothing.
-use Prim.Native.Nat.{ℕ, zero, suc, _+_, _-_, _<_, _≤_}
-use mathlib.Core.Path.{_≡_, refl, ap, ap₂, sym, _∙_}
-use mathlib.Core.List.{List, [], map}
+use Prim.Native.Nat.{ℕ, _+_, _-_, _<_, _≤_}
+use mathlib.Core.Path.{_≡_, ap, ap₂, _∙_}
+use mathlib.Core.List.{List, []}
 use native.Mathlib.Omega.{arith}
-use lib.ListN.{length, getD, length-map, List·getD-map}
+use lib.ListN.{length, getD, List·getD-map}
 use lib.Seq.{ext-getD}
 use Rattle.lists.specs.Entry.{nth}
-use Rattle.lists.specs.Values.{values}
-use Rattle.lists.specs.Chain.{chain, startOf}
+use Rattle.lists.specs.Chain.{startOf}
 use Rattle.lists.proofs.Values.{values-length, values-at, values-ext, values-own}
 use Rattle.lists.proofs.Chain.{start-is, start-more, start-part, chain-at}
 use Rattle.graph.specs.Graph.{Edge, Graph, checkCount, check, edges}

@@ -1,10 +1,10 @@
 -- Laws of the lists by variable: each holds its variable's edges and nothing else, ascending, and together they hold every edge once.
 -- Assumes nothing.
 use Prim.Native.Nat.{ℕ, zero, suc, _+_, _<_, _≤_}
-use mathlib.Core.Path.{_≡_, refl, ap, sym, _∙_}
-use mathlib.Core.Bool.{Bool, true, false}
-use mathlib.Core.List.{List, [], _∷_, _++_}
-use mathlib.Core.Logic.{⊎-elim, _≢_}
+use mathlib.Core.Path.{_≡_, ap, sym, _∙_}
+use mathlib.Core.Bool.{Bool}
+use mathlib.Core.List.{List, [], _∷_}
+use mathlib.Core.Logic.{⊎-elim}
 use native.Mathlib.Nat.{le-refl}
 use native.Mathlib.Numerals.{add-one}
 use native.Mathlib.Omega.{arith}

@@ -1,7 +1,7 @@
 -- The row starts of a graph go from 0 to the edge count without falling.
 -- Assumes nothing.
-use Prim.Native.Nat.{ℕ, _+_, _≤_}
-use mathlib.Core.Path.{_≡_, sym}
+use Prim.Native.Nat.{ℕ, _≤_}
+use mathlib.Core.Path.{_≡_}
 use lib.ListN.{length}
 use Rattle.lists.specs.Chain.{startOf}
 use Rattle.lists.proofs.Chain.{start-none, start-up, start-is}

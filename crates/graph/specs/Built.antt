@@ -6,7 +6,7 @@ use Rattle.lists.specs.Entry.{nth}
 use Rattle.lists.specs.Values.{values}
 use Rattle.lists.specs.Chain.{startOf}
 use Rattle.graph.specs.Graph.{Edge, Graph}
-use Rattle.graph.specs.Adjacency.{Adjacency, empty}
+use Rattle.graph.specs.Adjacency.{empty}
 use Rattle.graph.specs.Growth.{Growth, grown}
 use Rattle.graph.specs.Coefficients.{weighted}
 

@@ -2,11 +2,10 @@
 -- from all other rows. nb.rs, `build_encoder`.
 -- Assumes nothing.
 use Prim.Native.Nat.{ℕ, suc, _-_}
-use mathlib.Core.Bool.{Bool, not}
+use mathlib.Core.Bool.{not}
 use mathlib.Core.List.{List}
 use lib.Dec.{eqb, ltb}
 use lib.Bits.{bitXor}
-use lib.ListN.{length}
 use Rattle.lists.specs.Iter.{iter}
 use Rattle.lists.specs.Choice.{pick}
 use Rattle.lists.specs.Changed.{changed}

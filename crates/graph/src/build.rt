@@ -1,6 +1,5 @@
 // A code from degrees and a seed, where nothing turns the call down.
 ghost use mathlib.Core.Path.{_≡_};
-ghost use Prim.Native.Nat.{ℕ};
 ghost use lib.ListN.{length, replicate};
 ghost use Rattle.lists.specs.Laid.{laid};
 ghost use Rattle.graph.specs.Graph.{edges};

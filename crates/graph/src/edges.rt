@@ -1,6 +1,6 @@
 // The edge list of a grown graph: edges grouped by check, their coefficients, and the places of each variable's edges.
 ghost use mathlib.Core.Path.{_≡_};
-ghost use Prim.Native.Nat.{ℕ, _<_, _≤_, _+_};
+ghost use Prim.Native.Nat.{_<_, _≤_, _+_};
 ghost use lib.ListN.{length, take};
 ghost use Rattle.lists.specs.Entry.{nth};
 ghost use Rattle.lists.specs.Values.{values};

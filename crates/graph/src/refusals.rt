@@ -1,7 +1,6 @@
 // The tests by which calls are turned down, and their numbers in document 01's order.
 ghost use mathlib.Core.Path.{_≡_};
 ghost use mathlib.Core.List.{_∷_, []};
-ghost use Prim.Native.Nat.{ℕ, _≤_};
 ghost use lib.ListN.{length};
 ghost use Rattle.calls.specs.Refusal.{refusal, misfits};
 ghost use Rattle.graph.specs.Sizes.{tooLarge};

@@ -2,7 +2,7 @@
 -- Assumes nothing.
 use Prim.Native.Nat.{ℕ, zero, suc, _+_, _-_, _<_, _≤_}
 use mathlib.Core.Path.{_≡_, refl, ap, ap₂, sym, _∙_, subst}
-use mathlib.Core.List.{List, [], _∷_, _++_, map, map-append}
+use mathlib.Core.List.{List, [], _++_, map, map-append}
 use mathlib.Core.Logic.{⊎-elim}
 use native.Mathlib.Nat.{le-refl, le-step, le-of-suc-le-suc, eq-or-lt-of-le, not-suc-le-zero}
 use native.Mathlib.Numerals.{add-one}
@@ -105,10 +105,6 @@ pub chain-ext {ℓ} : {A : Type ℓ} (n : ℕ) (f g : ℕ → List A) → ((k : 
 chain-ext zero f g e = chain-none f ∙ sym (chain-none g)
 chain-ext (suc n) f g e =
     chain-suc f n ∙ ap₂ (λ a b. a ++ b) (chain-ext n f g (λ k h. e k (le-step h))) (e n (le-refl (suc n))) ∙ sym (chain-suc g n)
-
-pub start-ext {ℓ} : {A : Type ℓ} (n : ℕ) (f g : ℕ → List A) → ((k : ℕ) → k < n → f k ≡ g k) → startOf f n ≡ startOf g n
-unfolding startOf
-start-ext n f g e = ap length (chain-ext n f g e)
 
 pub map-chain {ℓ} : {A B : Type ℓ} (h : A → B) (n : ℕ) (f : ℕ → List A) → map h (chain n f) ≡ chain n (λ k. map h (f k))
 map-chain h zero f = ap (map h) (chain-none f) ∙ sym (chain-none (λ k. map h (f k)))

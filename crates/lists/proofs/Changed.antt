@@ -3,7 +3,6 @@
 use mathlib.Core.Path.{_≡_}
 use mathlib.Core.Logic.{_≢_}
 use Prim.Native.Nat.{ℕ}
-use lib.Dec.{eqb}
 use Rattle.lists.specs.Changed.{changed}
 use Rattle.lists.proofs.Choice.{pick-same, pick-other}
 

@@ -6,10 +6,10 @@ use mathlib.Core.List.{List}
 use mathlib.Core.Logic.{⊎-elim}
 use native.Mathlib.Omega.{arith}
 use native.Mathlib.Nat.{eq-or-lt-of-le, le-of-suc-le-suc, not-suc-le-zero}
-use lib.ListN.{length, getD, set, length-set}
+use lib.ListN.{length, getD, length-set}
 use lib.Seq.{getD-set-same, getD-set-other}
 use Rattle.lists.specs.Iter.{iter}
-use Rattle.lists.specs.Each.{each, eachTurn}
+use Rattle.lists.specs.Each.{each}
 
 module _ {A : Type 0} (d : A) (g : ℕ → A → A) where
   pub each-length : (n : ℕ) (l : List A) → length (each d n g l) ≡ length l

@@ -1,17 +1,17 @@
 -- A rule that gives n positions below n, no two the same, gives each of them; and the tests for it say so.
 -- Assumes nothing.
-use mathlib.Core.Path.{_≡_, refl, sym, ap, _∙_}
+use mathlib.Core.Path.{_≡_, sym, _∙_}
 use mathlib.Core.Logic.{_≢_, _⊎_, inl, inr, ⊎-elim}
-use mathlib.Core.Bool.{Bool, true, false, not, _||_}
-use Prim.Native.Nat.{ℕ, zero, suc, _<_, _≤_}
+use mathlib.Core.Bool.{true, false, _||_}
+use Prim.Native.Nat.{ℕ, zero, suc, _<_}
 use native.Mathlib.Nat.{le-refl, not-suc-le-zero}
 use native.Mathlib.Omega.{arith}
-use borrow.Author.Tests.{ne-eqb, eqb-true, eqb-false, lt-leb, leb-false, not-true}
+use borrow.Author.Tests.{ne-eqb, eqb-false, lt-leb, leb-false, not-true}
 use lib.Dec.{eqb, leb}
 use Rattle.lists.specs.AnyBelow.{anyBelow}
 use Rattle.lists.specs.Choice.{pick}
 use Rattle.lists.specs.EachOnce.{EachOnce, outside, repeated, eachOnce}
-use Rattle.lists.proofs.Cases.{same-or-not, less-or-not, neither, true-or-false}
+use Rattle.lists.proofs.Cases.{same-or-not, less-or-not, neither}
 use Rattle.lists.proofs.Choice.{pick-same, pick-other}
 use Rattle.lists.proofs.AnyBelow.{anyBelow-not, anyBelow-none}
 use Rattle.lists.proofs.Among.{among-or-not}

@@ -1,7 +1,7 @@
 -- Laws of the sum of numbers.
 -- Assumes nothing.
 use Prim.Native.Nat.{ℕ, zero, suc, _+_, _<_, _≤_}
-use mathlib.Core.Path.{_≡_, refl, ap, ap₂, sym, _∙_}
+use mathlib.Core.Path.{_≡_, refl, ap₂, sym, _∙_}
 use native.Mathlib.Nat.{le-refl, le-step}
 use native.Mathlib.Omega.{arith}
 use Rattle.lists.specs.Iter.{iter}

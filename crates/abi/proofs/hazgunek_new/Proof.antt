@@ -4,7 +4,6 @@ use Prim.Native.Nat.{ℕ}
 use mathlib.Core.Path.{_≡_, ap, sym, _∙_}
 use mathlib.Core.List.{List}
 use borrow.Author.Needs.{needs}
-use Rattle.graph.specs.declared.Code.{Code}
 use Rattle.graph.specs.declared.NewCode.{NewCode}
 use Rattle.graph.specs.Parts.{Parts}
 use Rattle.graph.specs.New.{Work, New, newCode}

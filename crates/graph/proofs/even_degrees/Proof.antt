@@ -1,8 +1,8 @@
 -- `graph::even_degrees` meets its contract: by 2, by 3, and with the degrees.
 -- Assumes nothing.
-use mathlib.Core.Path.{_≡_, refl, sym, _∙_, ap}
-use mathlib.Core.Bool.{Bool, true, false, not}
-use mathlib.Core.List.{List, [], _∷_}
+use mathlib.Core.Path.{_≡_, refl, sym}
+use mathlib.Core.Bool.{true, false}
+use mathlib.Core.List.{List}
 use Prim.Native.Nat.{ℕ}
 use native.Mathlib.Omega.{arith}
 use borrow.Author.Needs.{needs}
@@ -10,11 +10,10 @@ use borrow.Author.Tests.{lt-ltb, le-ltb, eq-eqb, ne-eqb}
 use denote.Ref.{now}
 use lib.Dec.{eqb, ltb}
 use lib.ListN.{length}
-use Rattle.lists.specs.Values.{values}
-use Rattle.calls.specs.Refusal.{refusal, misfit}
+use Rattle.calls.specs.Refusal.{refusal}
 use Rattle.calls.proofs.Refusal.{refusal-hit, refusal-miss, refusal-none}
 use Rattle.calls.proofs.Parts.{refused, found, kept, put}
-use Rattle.graph.specs.EvenDegrees.{evenDegrees, evenDegree, refusals}
+use Rattle.graph.specs.EvenDegrees.{evenDegrees, refusals}
 use Rattle.graph.proofs.even_degrees.Statement.{statement}
 use Rattle.graph.proofs.even_degrees.Tie as tie
 

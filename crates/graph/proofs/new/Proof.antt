@@ -1,10 +1,9 @@
 -- `graph::new` meets its contract: by 2 or 3, by 4 or 5, and with a code.
 -- Assumes nothing.
 use Prim.Native.Nat.{ℕ}
-use mathlib.Core.Path.{_≡_, refl, ap, sym, _∙_}
+use mathlib.Core.Path.{_≡_, ap, sym, _∙_}
 use mathlib.Core.Bool.{Bool, not, _||_}
 use mathlib.Core.List.{List, [], _∷_}
-use mathlib.Core.Logic.{_≢_}
 use borrow.Author.Needs.{needs}
 use denote.Ref.{now}
 use lib.Dec.{eqb}
@@ -13,10 +12,10 @@ use Rattle.calls.specs.Refusal.{refusal, misfits}
 use Rattle.calls.proofs.Refusal.{stopped, turned, through}
 use Rattle.graph.specs.declared.Code.{Code}
 use Rattle.graph.specs.declared.NewCode.{NewCode}
-use Rattle.graph.specs.declared.NewCode.the-variants.{Built, Refused}
+use Rattle.graph.specs.declared.NewCode.the-variants.{Built}
 use Rattle.graph.specs.Sizes.{tooLarge, codeLengths}
 use Rattle.graph.specs.Parts.{Parts, parts}
-use Rattle.graph.specs.New.{Work, workLengths, New, newCode}
+use Rattle.graph.specs.New.{Work, New}
 use Rattle.graph.proofs.Ends.{earlyTests, lateTests, blankWork, new-stopped, new-turned, new-built, new-long, new-parts, new-work, new-buildable}
 use Rattle.graph.proofs.new.Statement.{statement}
 use Rattle.graph.proofs.new.Tie as tie

@@ -1,7 +1,7 @@
 -- `field::gf::inv` meets its contract: the tables' rules, of the element modulo 32.
 -- Assumes nothing.
-use mathlib.Core.Path.{_≡_, ap, sym, _∙_}
-use Prim.Native.Nat.{ℕ, _%_}
+use mathlib.Core.Path.{ap, sym, _∙_}
+use Prim.Native.Nat.{_%_}
 use native.Mathlib.Omega.{arith}
 use borrow.Author.Needs.{needs}
 use Rattle.field.specs.Field.{inverse}

@@ -1,14 +1,13 @@
 -- `field::gf::mul` meets its contract: the tables' rules, of the factors modulo 32.
 -- Assumes nothing.
-use mathlib.Core.Path.{_≡_, ap, sym, _∙_}
+use mathlib.Core.Path.{sym, _∙_}
 use mathlib.Core.Logic.{⊎-elim, inl, inr}
-use Prim.Native.Nat.{ℕ, _%_}
+use Prim.Native.Nat.{_%_}
 use native.Mathlib.Omega.{arith}
 use borrow.Author.Needs.{needs}
 use borrow.Author.Tests.{eqb-true, eqb-false}
 use lib.Dec.{eqb}
 use Rattle.lists.proofs.Cases.{either, neither}
-use Rattle.field.specs.Field.{product}
 use Rattle.field.proofs.Product.{mod32, product-mod, product-vanishes}
 use Rattle.field.proofs.Logarithms.{exps, logs, logAt-lt, product-read}
 use Rattle.field.proofs.gf.mul.Statement.{statement}

@@ -1,12 +1,11 @@
 -- `field::splitmix64::draws` meets its contract. The invariant: k draws stand at the front of `out`, and the state is that after k draws.
 -- Assumes nothing.
-use mathlib.Core.Path.{_≡_, refl, ap, sym, _∙_, subst}
-use mathlib.Core.List.{List}
-use Prim.Native.Nat.{ℕ, _+_, _-_, _≤_}
+use mathlib.Core.Path.{_≡_, refl, ap, _∙_, subst}
+use Prim.Native.Nat.{ℕ, _-_, _≤_}
 use native.Mathlib.Omega.{arith}
 use borrow.Author.Needs.{needs}
 use denote.Ref.{now}
-use lib.ListN.{length, set, length-set}
+use lib.ListN.{length, length-set}
 use Rattle.lists.specs.Values.{values}
 use Rattle.lists.specs.Laid.{laid}
 use Rattle.lists.proofs.Laid.{fill-start, fill-on, fill-end, fill-all}

@@ -1,7 +1,5 @@
 -- `field::splitmix64::mix` meets its contract: its sum and products are those of the definition.
 -- Assumes nothing.
-use mathlib.Core.Path.{_≡_, ap, ap₂, _∙_}
-use Prim.Native.Nat.{ℕ, _*_, _%_, _^_}
 use borrow.Author.Needs.{needs}
 use Rattle.field.specs.SplitMix64.{mixed, draw, output, next, xorShifted, times}
 use Rattle.field.proofs.splitmix64.mix.Statement.{statement}

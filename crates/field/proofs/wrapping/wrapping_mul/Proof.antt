@@ -1,6 +1,6 @@
 -- `field::wrapping::wrapping_mul` meets its contract: the products of halves fit, and their sum is the product modulo 2 ^ 64.
 -- Assumes nothing.
-use mathlib.Core.Path.{_≡_, ap, _∙_}
+use mathlib.Core.Path.{ap, _∙_}
 use Prim.Native.Nat.{ℕ, _+_, _*_, _%_, _^_, _<_}
 use borrow.Author.Needs.{needs}
 use lib.Pow.{shr-lt}
@@ -8,7 +8,7 @@ use lib.Bits.{mask-lt}
 use mir.Syntax.{w64}
 use mir.Val.{Fits}
 use mir.Facts.{fits-bits}
-use Rattle.field.proofs.Halves.{lower, upper, product-by-halves, mul-lt-pow}
+use Rattle.field.proofs.Halves.{lower, product-by-halves, mul-lt-pow}
 use Rattle.field.proofs.wrapping.wrapping_mul.Statement.{statement}
 use Rattle.field.proofs.wrapping.wrapping_mul.Tie as tie
 

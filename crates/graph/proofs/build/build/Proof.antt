@@ -1,7 +1,7 @@
 -- `graph::build::build` meets its contract: over cleared parts, what was laid out and what elimination gives are the parts of the code.
 -- Assumes nothing.
-use Prim.Native.Nat.{ℕ, _<_, _≤_}
-use mathlib.Core.Path.{_≡_, refl, ap, ap₂, sym, _∙_, subst}
+use Prim.Native.Nat.{ℕ}
+use mathlib.Core.Path.{_≡_, ap, sym, _∙_}
 use mathlib.Core.List.{List}
 use native.Mathlib.Omega.{arith}
 use borrow.Author.Needs.{needs}
@@ -20,7 +20,6 @@ use Rattle.graph.specs.Descending.{descending}
 use Rattle.graph.specs.Built.{built}
 use Rattle.graph.specs.New.{numbers}
 use Rattle.graph.specs.Encodable.{Encodable}
-use Rattle.graph.specs.Buildable.{Buildable, PartsFit, WorkFits}
 use Rattle.graph.proofs.Built.{built-n, built-m}
 use Rattle.graph.proofs.BuiltParts.{parts-encodable, parts-reduced}
 use Rattle.graph.proofs.build.build.Statement.{statement}

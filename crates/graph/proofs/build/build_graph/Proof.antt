@@ -1,25 +1,23 @@
 -- `graph::build::build_graph` meets its contract: what was grown is laid out as `built` has it.
 -- Assumes nothing.
-use Prim.Native.Nat.{ℕ, _+_, _<_, _≤_}
-use mathlib.Core.Path.{_≡_, refl, ap, ap₂, sym, _∙_}
+use Prim.Native.Nat.{ℕ, _+_, _≤_}
+use mathlib.Core.Path.{_≡_, ap, ap₂, sym, _∙_}
 use mathlib.Core.List.{List}
 use native.Mathlib.Omega.{arith}
 use borrow.Author.Needs.{needs}
 use denote.Ref.{now}
 use lib.ListN.{length, take, length-map}
-use Rattle.lists.specs.Entry.{nth}
 use Rattle.lists.specs.Values.{values}
 use Rattle.lists.specs.Chain.{chain, startOf}
 use Rattle.lists.specs.Laid.{laid}
 use Rattle.lists.proofs.Laid.{laid-take}
-use Rattle.graph.specs.Graph.{Edge, Graph, edges, check}
+use Rattle.graph.specs.Graph.{Edge, Graph, edges}
 use Rattle.graph.specs.Parts.{variables, coefficients, places, rowStarts, columns, columnStarts}
 use Rattle.graph.specs.Growth.{Growth}
-use Rattle.graph.specs.Rows.{rows, Table, Grew}
+use Rattle.graph.specs.Rows.{rows}
 use Rattle.graph.specs.Coefficients.{coefficient}
 use Rattle.graph.specs.Built.{built}
-use Rattle.graph.specs.Buildable.{Buildable, WorkFits}
-use Rattle.graph.proofs.Built.{growth, grownChk, built-n, built-m, built-variables, built-coefficients, built-count, built-row-starts, built-columns, built-column-starts, grown-few}
+use Rattle.graph.proofs.Built.{growth, grownChk, built-variables, built-coefficients, built-count, built-row-starts, built-columns, built-column-starts, grown-few}
 use Rattle.graph.proofs.Blank.{blank-table, blank-counts}
 use Rattle.graph.proofs.build.build_graph.Statement.{statement}
 use Rattle.graph.proofs.build.build_graph.Tie as tie

@@ -1,18 +1,13 @@
 -- `graph::degrees::spread` meets its contract. The invariant: the first v degrees stand at the front.
 -- Assumes nothing.
 use mathlib.Core.Path.{_≡_, refl, sym, ap, _∙_}
-use mathlib.Core.Bool.{Bool, true, false}
-use mathlib.Core.List.{List}
 use mathlib.Core.Logic.{⊎-elim}
 use Prim.Native.Nat.{ℕ, _+_, _-_, _*_, _/_, _%_, _<_, _≤_}
-use native.Mathlib.Nat.{div-add-mod', mul-le-mul-left, mul-one, le-refl, add-zero}
+use native.Mathlib.Nat.{div-add-mod', mul-le-mul-left, mul-one, add-zero}
 use native.Mathlib.Omega.{arith}
-use borrow.Author.Tests.{lt-ltb, le-ltb}
 use denote.Ref.{now}
-use lib.Dec.{ltb}
-use lib.ListN.{length, set, length-set}
+use lib.ListN.{length, length-set}
 use Rattle.lists.specs.Values.{values}
-use Rattle.lists.specs.Choice.{pick}
 use Rattle.lists.specs.Laid.{laid}
 use Rattle.lists.proofs.Choice.{pick-less, pick-not-less}
 use Rattle.lists.proofs.Laid.{fill-start, fill-on, fill-end, fill-all}

@@ -1,12 +1,9 @@
 -- `graph::edges::draw_coefs` meets its contract. The invariant: e coefficients stand at the front, and the state is that after e draws.
 -- Assumes nothing.
-use mathlib.Core.Path.{_≡_, refl, ap, sym, _∙_}
-use mathlib.Core.List.{List}
-use Prim.Native.Nat.{ℕ, _+_, _-_, _*_, _<_, _≤_}
+use mathlib.Core.Path.{_≡_, refl, ap, _∙_}
+use Prim.Native.Nat.{_-_, _≤_}
 use native.Mathlib.Omega.{arith}
 use borrow.Author.Needs.{needs}
-use native.Mathlib.Nat.{mod-lt}
-use lib.Dec.{lit<}
 use lib.ListN.{length, length-set}
 use Rattle.lists.specs.Values.{values}
 use Rattle.lists.specs.Laid.{laid}

@@ -1,18 +1,16 @@
 -- `graph::edges::lay_check` meets its contract. The invariant: j of the variables stand from place `at` on.
 -- Assumes nothing.
 use mathlib.Core.Path.{_≡_, refl, ap, sym, _∙_}
-use mathlib.Core.List.{List, _++_}
+use mathlib.Core.List.{List}
 use Prim.Native.Nat.{ℕ, _+_, _-_, _*_, _<_, _≤_}
 use native.Mathlib.Omega.{arith}
-use borrow.Author.Needs.{needs}
 use denote.Ref.{now}
-use lib.ListN.{length, getD, take, length-set, length-take}
+use lib.ListN.{length, take, length-set}
 use lib.Seq.{take-all, length-take-le}
-use Rattle.lists.specs.Entry.{nth}
 use Rattle.lists.specs.Laid.{laidFrom}
 use Rattle.lists.proofs.Fold.{take-more}
 use Rattle.lists.proofs.Laid.{from-start, from-on}
-use Rattle.graph.specs.Rows.{rows, Table}
+use Rattle.graph.specs.Rows.{rows}
 use Rattle.graph.proofs.Rows.{rows-length, rows-at}
 use Rattle.graph.proofs.edges.lay_check.Statement.{statement}
 use Rattle.graph.proofs.edges.lay_check.Tie as tie

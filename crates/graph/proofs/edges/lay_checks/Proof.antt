@@ -1,19 +1,18 @@
 -- `graph::edges::lay_checks` meets its contract. The invariant: the edges of the first c checks stand at the front, and c + 1 row starts.
 -- Assumes nothing.
-use mathlib.Core.Path.{_≡_, refl, ap, sym, _∙_}
-use mathlib.Core.List.{List}
-use Prim.Native.Nat.{ℕ, _+_, _-_, _*_, _<_, _≤_}
+use mathlib.Core.Path.{_≡_, ap, sym, _∙_}
+use Prim.Native.Nat.{ℕ, _+_, _-_, _<_, _≤_}
 use native.Mathlib.Omega.{arith}
 use denote.Ref.{now}
 use lib.ListN.{length, set, length-set}
 use Rattle.lists.specs.Entry.{nth}
 use Rattle.lists.specs.Values.{values}
 use Rattle.lists.specs.Chain.{chain, startOf}
-use Rattle.lists.specs.Laid.{laid, laidFrom}
+use Rattle.lists.specs.Laid.{laid}
 use Rattle.lists.proofs.Values.{values-length}
 use Rattle.lists.proofs.Chain.{start-none, start-more, start-up, chain-start, chain-on}
-use Rattle.lists.proofs.Laid.{laid-set, fill-first, fill-on, fill-end}
-use Rattle.graph.specs.Rows.{rows, Table}
+use Rattle.lists.proofs.Laid.{laid-set, fill-first, fill-on}
+use Rattle.graph.specs.Rows.{rows}
 use Rattle.graph.proofs.Rows.{rows-length}
 use Rattle.graph.proofs.edges.lay_checks.Statement.{statement}
 use Rattle.graph.proofs.edges.lay_checks.Tie as tie

@@ -1,18 +1,18 @@
 -- `graph::edges::lay_columns` meets its contract. The invariant: the places of the first v variables' edges stand at the front, and v + 1 starts.
 -- Assumes nothing.
-use mathlib.Core.Path.{_≡_, refl, ap, sym, _∙_}
+use mathlib.Core.Path.{_≡_, ap, sym, _∙_}
 use mathlib.Core.List.{List}
-use Prim.Native.Nat.{ℕ, _+_, _-_, _*_, _<_, _≤_}
+use Prim.Native.Nat.{ℕ, _+_, _-_, _≤_}
 use native.Mathlib.Omega.{arith}
 use denote.Ref.{now}
 use lib.ListN.{length, take, set, length-set}
 use lib.Seq.{length-take-le}
 use Rattle.lists.specs.Values.{values}
 use Rattle.lists.specs.Chain.{chain, startOf}
-use Rattle.lists.specs.Laid.{laid, laidFrom}
+use Rattle.lists.specs.Laid.{laid}
 use Rattle.lists.proofs.Values.{values-length}
 use Rattle.lists.proofs.Chain.{start-none, start-more, chain-start, chain-on}
-use Rattle.lists.proofs.Laid.{laid-set, fill-first, fill-on, fill-end}
+use Rattle.lists.proofs.Laid.{laid-set, fill-first, fill-on}
 use Rattle.graph.specs.Parts.{places}
 use Rattle.graph.proofs.Places.{places-few}
 use Rattle.graph.proofs.edges.lay_columns.Statement.{statement}

@@ -12,7 +12,7 @@ use lib.ListN.{length, getD, take, length-set}
 use lib.Seq.{getD-take, length-take-le}
 use Rattle.lists.proofs.Kept.{Kept, kept-start, kept-pass, kept-fail}
 use Rattle.graph.specs.Parts.{places}
-use Rattle.graph.proofs.Places.{mine, found, found-room}
+use Rattle.graph.proofs.Places.{mine, found-room}
 use Rattle.graph.proofs.edges.lay_places.Statement.{statement}
 use Rattle.graph.proofs.edges.lay_places.Tie as tie
 

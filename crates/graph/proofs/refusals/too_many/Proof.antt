@@ -1,12 +1,10 @@
 -- `graph::refusals::too_many` meets its contract. The invariant: the sum of the first v degrees is at most 512.
 -- Assumes nothing.
-use mathlib.Core.Path.{_≡_, sym, ap, _∙_}
-use mathlib.Core.Bool.{true, false}
-use Prim.Native.Nat.{ℕ, _+_, _-_, _<_, _≤_}
+use mathlib.Core.Path.{_≡_, sym, ap}
+use Prim.Native.Nat.{ℕ, _-_, _≤_}
 use native.Mathlib.Omega.{arith}
 use borrow.Author.Tests.{lt-ltb, le-ltb}
 use denote.Ref.{now}
-use lib.Dec.{ltb}
 use lib.ListN.{length}
 use Rattle.lists.specs.Entry.{nth}
 use Rattle.lists.specs.Total.{total}
