@@ -89,3 +89,7 @@ drop-replicate (suc k) (suc n) v = drop-replicate k n v ∙ ap (λ (m : ℕ). re
 pub padded-laid {ℓ} : {A : Type ℓ} (n : ℕ) (blank : A) (answer : List A) → laid answer (replicate n blank) ≡ padded n blank answer
 unfolding padded laid
 padded-laid n blank answer = ap (λ (l : List _). answer ++ l) (drop-replicate (length answer) n blank)
+
+-- the same of a part that a call has cleared and filled
+pub padded-filled {ℓ} : {A : Type ℓ} (k n : ℕ) (blank : A) (answer part whole : List A) → n ≡ k → part ≡ replicate n blank → whole ≡ laid answer part → whole ≡ padded k blank answer
+padded-filled k n blank answer part whole e b h = h ∙ ap (laid answer) (b ∙ ap (λ (i : ℕ). replicate i blank) e) ∙ padded-laid k blank answer

@@ -1,7 +1,7 @@
 -- The three ends of the call new: by a number that touches nothing, by a later one, and with a code.
 -- Assumes nothing.
 use Prim.Native.Nat.{ℕ}
-use mathlib.Core.Path.{_≡_, refl}
+use mathlib.Core.Path.{_≡_, refl, ap, sym, _∙_}
 use mathlib.Core.Bool.{Bool, true, false}
 use mathlib.Core.List.{List, [], _∷_}
 use mathlib.Core.Logic.{_≢_}
@@ -21,7 +21,7 @@ use Rattle.graph.specs.Sizes.{tooLarge, codeLengths}
 use Rattle.graph.specs.Parts.{Parts, parts}
 use Rattle.graph.specs.Descending.{descending}
 use Rattle.graph.specs.Built.{built}
-use Rattle.graph.specs.New.{Work, workLengths, tooMany, tooHigh, refusals, numbers, New, newCode}
+use Rattle.graph.specs.New.{Work, workLengths, workLeft, tooMany, tooHigh, refusals, numbers, New, newCode}
 use Rattle.graph.specs.Buildable.{Buildable, PartsFit, WorkFits}
 
 -- the tests that touch nothing, and those after them
@@ -35,49 +35,37 @@ lateTests n m degrees = (tooMany n degrees, 4) ∷ (tooHigh n m degrees, 5) ∷ 
 abbrev pub blankWork : Work → Work
 blankWork w = record { chk = replicate (length (w .chk)) 0; load = replicate (length (w .load)) 0; own = replicate (length (w .own)) 0; deg = replicate (length (w .deg)) 0 }
 
-module _ (n m seed : ℕ) (degrees : List ℕ) (code : Parts) (work : Work) (k : ℕ) where
-  pub new-stopped : refusal (refusals n m degrees code work) ≡ k → k ≢ 0 → touchesNothing k ≡ true
+-- the work parts by the class of the number
+module _ (k : ℕ) (w : Work) where
+  work-untouched : touchesNothing k ≡ true → workLeft k w ≡ w
+  work-untouched t = rw (untouched k 0 (w .chk) t, untouched k 0 (w .load) t, untouched k 0 (w .own) t, untouched k 0 (w .deg) t)
+
+  work-blank : touchesNothing k ≡ false → workLeft k w ≡ blankWork w
+  work-blank t = rw (zeroed k 0 (w .chk) t, zeroed k 0 (w .load) t, zeroed k 0 (w .own) t, zeroed k 0 (w .deg) t)
+
+module _ (n m seed : ℕ) (degrees : List ℕ) (code : Parts) (work : Work) where
+  new-refused : (k : ℕ) → refusal (refusals n m degrees code work) ≡ k → k ≢ 0 → {left : Work} → workLeft k work ≡ left
+      → _≡_ {A = New} (record { answer = Refused k; code = code; work = left }) (newCode n m seed degrees code work)
+  unfolding newCode
+  new-refused k e z {left} l =
+      ap (λ (w : Work). record { answer = Refused k; code = code; work = w }) (sym l)
+      ∙ rw (e, refused k Refused (Built (numbers (built n m degrees seed) (descending n))) z, kept k code (parts (built n m degrees seed) (descending n)) z)
+
+  pub new-stopped : (k : ℕ) → refusal (refusals n m degrees code work) ≡ k → k ≢ 0 → touchesNothing k ≡ true
       → _≡_ {A = New} (record { answer = Refused k; code = code; work = work }) (newCode n m seed degrees code work)
-  unfolding newCode
-  new-stopped e z t =
-      rw (
-        e,
-        refused k Refused (Built (numbers (built n m degrees seed) (descending n))) z,
-        kept k code (parts (built n m degrees seed) (descending n)) z,
-        untouched k 0 (work .chk) t,
-        untouched k 0 (work .load) t,
-        untouched k 0 (work .own) t,
-        untouched k 0 (work .deg) t,
-      )
+  new-stopped k e z t = new-refused k e z (work-untouched k work t)
 
-  pub new-turned : refusal (refusals n m degrees code work) ≡ k → k ≢ 0 → touchesNothing k ≡ false
+  pub new-turned : (k : ℕ) → refusal (refusals n m degrees code work) ≡ k → k ≢ 0 → touchesNothing k ≡ false
       → _≡_ {A = New} (record { answer = Refused k; code = code; work = blankWork work }) (newCode n m seed degrees code work)
-  unfolding newCode
-  new-turned e z t =
-      rw (
-        e,
-        refused k Refused (Built (numbers (built n m degrees seed) (descending n))) z,
-        kept k code (parts (built n m degrees seed) (descending n)) z,
-        zeroed k 0 (work .chk) t,
-        zeroed k 0 (work .load) t,
-        zeroed k 0 (work .own) t,
-        zeroed k 0 (work .deg) t,
-      )
+  new-turned k e z t = new-refused k e z (work-blank k work t)
 
-pub new-built : (n m seed : ℕ) (degrees : List ℕ) (code : Parts) (work : Work) → refusal (refusals n m degrees code work) ≡ 0
-    → _≡_ {A = New} (record { answer = Built (numbers (built n m degrees seed) (descending n)); code = parts (built n m degrees seed) (descending n); work = blankWork work })
-    (newCode n m seed degrees code work)
-unfolding newCode
-new-built n m seed degrees code work e =
-    rw (
-      e,
-      found Refused (Built (numbers (built n m degrees seed) (descending n))),
-      put code (parts (built n m degrees seed) (descending n)),
-      zeroed 0 0 (work .chk) refl,
-      zeroed 0 0 (work .load) refl,
-      zeroed 0 0 (work .own) refl,
-      zeroed 0 0 (work .deg) refl,
-    )
+  pub new-built : refusal (refusals n m degrees code work) ≡ 0
+      → _≡_ {A = New} (record { answer = Built (numbers (built n m degrees seed) (descending n)); code = parts (built n m degrees seed) (descending n); work = blankWork work })
+      (newCode n m seed degrees code work)
+  unfolding newCode
+  new-built e =
+      ap (λ (w : Work). record { answer = Built (numbers (built n m degrees seed) (descending n)); code = parts (built n m degrees seed) (descending n); work = w }) (sym (work-blank 0 work refl))
+      ∙ rw (e, found Refused (Built (numbers (built n m degrees seed) (descending n))), put code (parts (built n m degrees seed) (descending n)))
 
 -- ---- what the tests leave
 

@@ -35,6 +35,10 @@ lentWork chk load own deg = record { chk = now chk; load = now load; own = now o
 abbrev pub workLengths : Work → List (ℕ × ℕ)
 workLengths w = (length (w .chk), 65536) ∷ (length (w .load), 256) ∷ (length (w .own), 65536) ∷ (length (w .deg), 256) ∷ []
 
+-- after number k
+abbrev pub workLeft : ℕ → Work → Work
+workLeft k w = record { chk = worked k 0 (w .chk); load = worked k 0 (w .load); own = worked k 0 (w .own); deg = worked k 0 (w .deg) }
+
 -- 4: "Degrees that sum to more than 512"
 unfoldable pub tooMany : ℕ → List ℕ → Bool
 tooMany n degrees = ltb 512 (total n (nth degrees))
@@ -67,5 +71,5 @@ newCode n m seed degrees code work =
     record {
       answer = answered k Refused (Built (numbers g (descending n)));
       code = written k code (parts g (descending n));
-      work = record { chk = worked k 0 (work .chk); load = worked k 0 (work .load); own = worked k 0 (work .own); deg = worked k 0 (work .deg) };
+      work = workLeft k work;
     }

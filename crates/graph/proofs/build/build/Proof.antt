@@ -6,11 +6,11 @@ use mathlib.Core.List.{List}
 use native.Mathlib.Omega.{arith}
 use borrow.Author.Needs.{needs}
 use denote.Ref.{now}
-use lib.ListN.{length, replicate}
+use lib.ListN.{length}
 use Rattle.lists.specs.Values.{values}
 use Rattle.lists.specs.Laid.{laid}
 use Rattle.calls.specs.Parts.{padded}
-use Rattle.calls.proofs.Parts.{padded-laid}
+use Rattle.calls.proofs.Parts.{padded-filled}
 use Rattle.graph.specs.declared.Code.{Code}
 use Rattle.graph.specs.Graph.{Graph, edges, checkCount}
 use Rattle.graph.specs.Elimination.{State, reduced, infos}
@@ -42,10 +42,6 @@ ordered c = c .before .before .before .before .before .before .before .before .b
 abbrev S : tie.After-build-graph → tie.Start
 S c = start (cleared c)
 
--- a list over a cleared part
-over : (k n : ℕ) (l part whole : List ℕ) → n ≡ k → part ≡ replicate n 0 → whole ≡ laid l part → whole ≡ padded k 0 l
-over k n l part whole e b h = h ∙ ap (laid l) (b ∙ ap (λ (i : ℕ). replicate i 0) e) ∙ padded-laid k 0 l
-
 -- parts that are equal are alike in elimination
 module _ (n m : ℕ) (v c r o v′ c′ r′ o′ : List ℕ) (e₁ : v ≡ v′) (e₂ : c ≡ c′) (e₃ : r ≡ r′) (e₄ : o ≡ o′) where
   encodable-by : Encodable n m v′ c′ r′ o′ → Encodable n m v c r o
@@ -71,26 +67,26 @@ module _ (c : tie.After-build-graph) where
   g = built n m degrees seed
 
   var-is : c .build-graph .last .1 .1 .1 .1 .0 ≡ padded 512 0 (variables g)
-  var-is = over 512 _ _ _ _ (S c .pre .1 .0 .var) (cleared c .clear-code .ensures .0) (c .build-graph .ensures .1)
+  var-is = padded-filled 512 _ 0 _ _ _ (S c .pre .1 .0 .var) (cleared c .clear-code .ensures .0) (c .build-graph .ensures .1)
 
   coef-is : c .build-graph .last .1 .1 .1 .1 .1 .0 ≡ padded 512 0 (coefficients g)
-  coef-is = over 512 _ _ _ _ (S c .pre .1 .0 .coef) (cleared c .clear-code .ensures .1) (c .build-graph .ensures .2)
+  coef-is = padded-filled 512 _ 0 _ _ _ (S c .pre .1 .0 .coef) (cleared c .clear-code .ensures .1) (c .build-graph .ensures .2)
 
   row-is : c .build-graph .last .1 .1 .1 .1 .1 .1 .0 ≡ padded 257 0 (rowStarts g)
-  row-is = over 257 _ _ _ _ (S c .pre .1 .0 .row) (cleared c .clear-code .ensures .2) (c .build-graph .ensures .3)
+  row-is = padded-filled 257 _ 0 _ _ _ (S c .pre .1 .0 .row) (cleared c .clear-code .ensures .2) (c .build-graph .ensures .3)
 
   start-is : c .build-graph .last .1 .1 .1 .1 .1 .1 .1 .0 ≡ padded 257 0 (columnStarts g)
-  start-is = over 257 _ _ _ _ (S c .pre .1 .0 .start) (cleared c .clear-code .ensures .3) (c .build-graph .ensures .4)
+  start-is = padded-filled 257 _ 0 _ _ _ (S c .pre .1 .0 .start) (cleared c .clear-code .ensures .3) (c .build-graph .ensures .4)
 
   col-is : c .build-graph .last .1 .1 .1 .1 .1 .1 .1 .1 .0 ≡ padded 512 0 (columns g)
-  col-is = over 512 _ _ _ _ (S c .pre .1 .0 .col) (cleared c .clear-code .ensures .4) (c .build-graph .ensures .5)
+  col-is = padded-filled 512 _ 0 _ _ _ (S c .pre .1 .0 .col) (cleared c .clear-code .ensures .4) (c .build-graph .ensures .5)
 
 module _ (c : tie.After-lay-order) where
   abbrev w : tie.After-build-graph
   w = grown c
 
   order-is : c .lay-order .last .1 .0 ≡ padded 256 0 (descending (n w))
-  order-is = over 256 _ _ _ _ (S w .pre .1 .0 .order) (cleared w .clear-code .ensures .5) (c .lay-order .ensures)
+  order-is = padded-filled 256 _ 0 _ _ _ (S w .pre .1 .0 .order) (cleared w .clear-code .ensures .5) (c .lay-order .ensures)
 
   encodable : Encodable (n w) (m w) (w .build-graph .last .1 .1 .1 .1 .0) (w .build-graph .last .1 .1 .1 .1 .1 .0) (w .build-graph .last .1 .1 .1 .1 .1 .1 .0) (c .lay-order .last .1 .0)
   encodable = encodable-by _ _ _ _ _ _ _ _ _ _ (var-is w) (coef-is w) (row-is w) order-is (parts-encodable (n w) (m w) (degrees w) (seed w) (S w .pre .0))
@@ -114,17 +110,17 @@ module _ (c : tie.After-build-encoder) where
 
   parity-is : c .build-encoder .last .1 .1 .1 .1 .1 .1 .1 .0 ≡ padded 256 0 (values (s .rank) (s .pivot))
   parity-is =
-      over 256 _ _ _ _ (S x .pre .1 .0 .parity) (cleared x .clear-code .ensures .6) (c .build-encoder .ensures .1)
+      padded-filled 256 _ 0 _ _ _ (S x .pre .1 .0 .parity) (cleared x .clear-code .ensures .6) (c .build-encoder .ensures .1)
       ∙ ap (λ (t : State). padded 256 0 (values (t .rank) (t .pivot))) (reduced-is o)
 
   info-is : c .build-encoder .last .1 .1 .1 .1 .1 .1 .1 .1 .0 ≡ padded 256 0 (infos (n x) s)
   info-is =
-      over 256 _ _ _ _ (S x .pre .1 .0 .info) (cleared x .clear-code .ensures .7) (c .build-encoder .ensures .2)
+      padded-filled 256 _ 0 _ _ _ (S x .pre .1 .0 .info) (cleared x .clear-code .ensures .7) (c .build-encoder .ensures .2)
       ∙ ap (λ (t : State). padded 256 0 (infos (n x) t)) (reduced-is o)
 
   a-is : c .build-encoder .last .1 .1 .1 .1 .1 .1 .1 .1 .1 .0 ≡ padded 16384 0 (table (n x) s)
   a-is =
-      over 16384 _ _ _ _ (S x .pre .1 .0 .a) (cleared x .clear-code .ensures .8) (c .build-encoder .ensures .3)
+      padded-filled 16384 _ 0 _ _ _ (S x .pre .1 .0 .a) (cleared x .clear-code .ensures .8) (c .build-encoder .ensures .3)
       ∙ ap (λ (t : State). padded 16384 0 (table (n x) t)) (reduced-is o)
 
 -- ---- the calls, from the end
