@@ -1,7 +1,7 @@
 -- What each class of numbers makes of an answer and of each kind of lent part.
 -- Assumes nothing.
 use Prim.Native.Nat.{ℕ, zero, suc, _+_, _-_, _≤_, _<_}
-use mathlib.Core.Path.{_≡_, refl, ap, _∙_}
+use mathlib.Core.Path.{_≡_, refl, ap, sym, _∙_}
 use mathlib.Core.Logic.{_≢_}
 use mathlib.Core.Bool.{true, false}
 use mathlib.Core.List.{List, _++_}
@@ -10,7 +10,10 @@ use borrow.Author.Tests.{ne-eqb}
 use lib.Dec.{T}
 use lib.ListN.{length, getD, drop, replicate, length-append, length-replicate, List·getD-append, getD-replicate}
 use lib.Seq.{getD-append-add}
+use Rattle.lists.specs.Entry.{nth}
+use Rattle.lists.specs.Front.{usedPast}
 use Rattle.lists.specs.Laid.{laid}
+use Rattle.lists.proofs.UsedPast.{not-used}
 use Rattle.lists.proofs.Computed.{allBelow}
 use Rattle.calls.specs.Parts.{touchesNothing, beforeRounds, afterRounds, answered, worked, written, posted, padded}
 
@@ -79,6 +82,24 @@ module _ {ℓ} {A : Type ℓ} (n : ℕ) (blank : A) (answer : List A) (fits : le
   pub padded-past : (k : ℕ) (d : A) → k < n - length answer → getD (padded n blank answer) (length answer + k) d ≡ blank
   unfolding padded
   padded-past k d h = rw (getD-append-add answer (replicate (n - length answer) blank) k d, getD-replicate (n - length answer) k blank d h)
+
+-- k numbers in a part of n: its length, its front, and that nothing past the front is used
+pub record Padded (n k : ℕ) (answer : List ℕ) : Type 0 where
+  pub whole : length (padded n 0 answer) ≡ n
+  pub front : (i : ℕ) → i < k → nth (padded n 0 answer) i ≡ nth answer i
+  pub unused : usedPast k (padded n 0 answer) ≡ false
+
+pub padded-is : (n k : ℕ) (answer : List ℕ) → length answer ≡ k → k ≤ n → Padded n k answer
+padded-is n k answer e h = record {
+  whole = padded-length n 0 answer fits;
+  front = λ i l. padded-in n 0 answer fits i 0 (omega arith);
+  unused =
+      not-used k (padded n 0 answer)
+      (λ j l. ap (λ (i : ℕ). nth (padded n 0 answer) (i + j)) (sym e) ∙ padded-past n 0 answer fits j 0 (omega (arith, padded-length n 0 answer fits)));
+}
+  where
+    fits : length answer ≤ n
+    fits = omega arith
 
 drop-replicate {ℓ} : {A : Type ℓ} (k n : ℕ) (v : A) → drop k (replicate n v) ≡ replicate (n - k) v
 drop-replicate zero n v = ap (λ (m : ℕ). replicate m v) (let e : n ≡ n - 0 = omega arith in e)

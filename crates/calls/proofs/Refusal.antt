@@ -3,13 +3,13 @@
 -- Assumes nothing.
 use Prim.Native.Nat.{ℕ, suc}
 use mathlib.Core.Path.{_≡_, refl, sym, ap, _∙_}
-use mathlib.Core.Logic.{_≢_}
-use mathlib.Core.Bool.{Bool, true, false, true≢false, not, _&&_, _||_}
+use mathlib.Core.Logic.{_≢_, ⊎-elim}
+use mathlib.Core.Bool.{Bool, true, false, true≢false, not, or-false, _&&_, _||_}
 use mathlib.Core.List.{List, [], _∷_, _++_}
 use native.Mathlib.Omega.{arith}
-use borrow.Author.Tests.{eqb-true, ne-eqb, not-true, not-false}
+use borrow.Author.Tests.{eqb-true, eq-eqb, ne-eqb, not-true, not-false}
 use lib.Dec.{T, eqb, leb, leb→le}
-use Rattle.lists.proofs.Cases.{neither, and-parts, holds, is-true}
+use Rattle.lists.proofs.Cases.{same-or-not, neither, and-parts, holds, is-true}
 use Rattle.calls.specs.Refusal.{oneHolds, refusal, misfits}
 use Rattle.calls.specs.Parts.{touchesNothing, beforeRounds, afterRounds}
 
@@ -26,6 +26,10 @@ one-miss ts e h q = rw (← e, h, q)
 pub one-join : {r s t : Bool} (ts : List Bool) → r ≡ t → s ≡ oneHolds ts → (r || s) ≡ oneHolds (t ∷ ts)
 unfolding oneHolds
 one-join ts e h = rw (e, h)
+
+pub one-last : {r t : Bool} → r ≡ t → r ≡ oneHolds (t ∷ [])
+unfolding oneHolds
+one-last {t = t} e = e ∙ sym (or-false t)
 
 pub one-none : false ≡ oneHolds []
 unfolding oneHolds
@@ -45,6 +49,16 @@ refusal-none = refl
 
 -- ---- what a test that was passed says
 
+-- each of several tests fails
+abbrev pub Fail : List Bool → Type 0
+Fail [] = Unit
+Fail (t ∷ ts) = (t ≡ false) × Fail ts
+
+pub one-fail : (ts : List Bool) → oneHolds ts ≡ false → Fail ts
+unfolding oneHolds
+one-fail [] e = tt
+one-fail (t ∷ ts) e = let r = neither t (oneHolds ts) e in (r .0, one-fail ts (r .1))
+
 pub pass : (t : Bool) (k : ℕ) (ts : List (Bool × ℕ)) → refusal ((t, suc k) ∷ ts) ≡ 0 → (t ≡ false) × (refusal ts ≡ 0)
 unfolding refusal
 pass true k ts e = absurd (omega arith)
@@ -61,6 +75,10 @@ alike (p ∷ ps) rest e =
     let r = neither (not (eqb (p .0) (p .1))) (misfits ps rest) e in
     let q = alike ps rest (r .1) in
     ((eqb-true (p .0) (p .1) (not-false (eqb (p .0) (p .1)) (r .0)), q .0), q .1)
+
+pub fitting : (ps : List (ℕ × ℕ)) (rest : Bool) → Alike ps → rest ≡ false → misfits ps rest ≡ false
+fitting [] rest a e = e
+fitting (p ∷ ps) rest a e = rw (eq-eqb (p .0) (p .1) (a .0), fitting ps rest (a .1) e)
 
 -- ---- lists of tests one after the other
 
@@ -83,11 +101,19 @@ module _ (class : ℕ → Bool) where
   later n ((true, k) ∷ ts) b p e = absurd (true≢false (sym (holds (class k) (and-parts (class k) (ofClass class ts) p .0)) ∙ ap class e ∙ n))
   later n ((false, k) ∷ ts) b p e = later n ts b (and-parts (class k) (ofClass class ts) p .1) e
 
-first : (a b : List (Bool × ℕ)) → refusal a ≢ 0 → refusal (a ++ b) ≡ refusal a
+pub first : (a b : List (Bool × ℕ)) → refusal a ≢ 0 → refusal (a ++ b) ≡ refusal a
 unfolding refusal
 first [] b z = absurd (z refl)
 first ((true, k) ∷ ts) b z = refl
 first ((false, k) ∷ ts) b z = first ts b z
+
+-- numbers other than 0
+abbrev pub isNumber : ℕ → Bool
+isNumber k = not (eqb k 0)
+
+-- where the first of two lists turns nothing down, the second decides
+pub second : (a b : List (Bool × ℕ)) → T (ofClass isNumber a) → refusal a ≡ 0 → refusal (a ++ b) ≡ refusal b
+second a b p e = later isNumber refl a b p e
 
 -- ---- the classes
 
@@ -123,3 +149,9 @@ decided a b c p q h n g z k = later touchesNothing refl a (b ++ c) p (sym h ∙ 
 
 pub through : (a b : List (Bool × ℕ)) → T (ofClass touchesNothing a) → {d e : ℕ} → d ≡ refusal a → d ≡ 0 → e ≡ refusal b → e ≡ 0 → refusal (a ++ b) ≡ 0
 through a b p h n g z = later touchesNothing refl a b p (sym h ∙ n) ∙ sym g ∙ z
+
+-- a call that is not turned down passed both
+pub accepted : (a b : List (Bool × ℕ)) → T (ofClass touchesNothing a) → refusal (a ++ b) ≡ 0 → (refusal a ≡ 0) × (refusal b ≡ 0)
+accepted a b p e =
+    let z : refusal a ≡ 0 = ⊎-elim (λ z. z) (λ n. absurd (n (sym (first a b n) ∙ e))) (same-or-not (refusal a) 0) in
+    (z, sym (later touchesNothing refl a b p z) ∙ e)

@@ -14,6 +14,7 @@ use Rattle.lists.specs.Values.{values}
 use Rattle.lists.proofs.Computed.{allBelow-at, equal1}
 use Rattle.lists.proofs.Values.{values-at}
 use Rattle.field.specs.Field.{product, power, inverse}
+use Rattle.field.specs.Tabled.{Tabled}
 use Rattle.field.proofs.Product.{product-lt, product-comm, product-assoc, one-product, power-lt, power-add, inverse-unique}
 
 -- x, the polynomial
@@ -111,3 +112,8 @@ pub inverse-read : (a : ℕ) → a < 32 → a ≢ 0 → expAt ((31 - logAt a) % 
 inverse-read a ha ka =
     exp-at ((31 - logAt a) % 31) (omega (arith, mod-lt (31 - logAt a) (lit< {m = 0} {n = 31} tt))) ∙ ap (λ (i : ℕ). power x ((31 - i) % 31)) (log-at a ha)
     ∙ inverse-log a ha ka
+
+-- the tables, as a function that is lent them asks
+pub tabled : Tabled exps logs
+unfolding exps logs
+tabled = record { exp-long = refl; log-long = refl; low = logAt-lt; sums = product-read }

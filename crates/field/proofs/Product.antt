@@ -28,6 +28,9 @@ product-comm a b = by-horner a b ∙ horner-comm (a % 32) (b % 32) (mod32 a) (mo
 pub product-mod-left : (a b : ℕ) → product (a % 32) b ≡ product a b
 product-mod-left a b = by-horner (a % 32) b ∙ ap (λ (x : ℕ). horner x (b % 32)) (mod-eq-of-lt (mod32 a)) ∙ sym (by-horner a b)
 
+pub product-mod-right : (a b : ℕ) → product a (b % 32) ≡ product a b
+product-mod-right a b = product-comm a (b % 32) ∙ product-mod-left b a ∙ product-comm b a
+
 pub product-mod : (a b : ℕ) → product (a % 32) (b % 32) ≡ product a b
 product-mod a b = product-mod-left a (b % 32) ∙ product-comm a (b % 32) ∙ product-mod-left b a ∙ product-comm b a
 

@@ -5,7 +5,7 @@ use Prim.Native.Nat.{ℕ, _+_, _*_, _/_, _%_, _<_}
 use native.Mathlib.Nat.{mod-lt}
 use lib.Dec.{eqb, eqb→eq, lit<}
 use lib.Arith.{bin-ind}
-use lib.Bits.{bitXor, differ, xor-step, xor-shr, xor-mod, xor-lt, xor-comm, xor-zero-l, xor-self}
+use lib.Bits.{bitXor, differ, xor-step, xor-shr, xor-mod, xor-lt, xor-comm, xor-zero-l, xor-zero-r, xor-self}
 use Rattle.lists.proofs.Computed.{allBelow, allBelow-at, allBelow-at2, equal2}
 
 pub mod2 : (n : ℕ) → n % 2 < 2
@@ -42,6 +42,10 @@ xor-inter p q r s =
 -- a term added twice is gone
 pub xor-cancel : (a b : ℕ) → bitXor a (bitXor a b) ≡ b
 xor-cancel a b = sym (xor-assoc a a b) ∙ ap (λ (x : ℕ). bitXor x b) (xor-self a) ∙ xor-zero-l b
+
+-- two whose sum is 0 are the same
+pub xor-equal : (a b : ℕ) → bitXor a b ≡ 0 → a ≡ b
+xor-equal a b e = sym (xor-zero-r a) ∙ ap (bitXor a) (sym e) ∙ xor-cancel a b
 
 pub xor32 : (a b : ℕ) → a < 32 → b < 32 → bitXor a b < 32
 xor32 = xor-lt 5

@@ -8,7 +8,7 @@ use native.Mathlib.Omega.{arith}
 use lib.ListN.{length, replicate, length-replicate, getD-replicate, List·getD-eq-default}
 use Rattle.lists.specs.Entry.{nth}
 use Rattle.lists.proofs.Cases.{less-or-not}
-use Rattle.graph.specs.Rows.{Table}
+use Rattle.growth.specs.Rows.{Table}
 
 blank-at : (n k : ℕ) → nth (replicate n 0) k ≡ 0
 blank-at n k =

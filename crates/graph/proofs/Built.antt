@@ -13,12 +13,12 @@ use Rattle.lists.specs.Total.{total}
 use Rattle.lists.proofs.Chain.{chain-ext, map-chain, chain-values, chain-length, start-is, start-lengths}
 use Rattle.graph.specs.Graph.{Edge, checkCount, check, edges}
 use Rattle.graph.specs.Parts.{variables, coefficients, rowStarts, places, columns, columnStarts}
-use Rattle.graph.specs.Adjacency.{empty}
-use Rattle.graph.specs.Growth.{Growth, grown}
+use Rattle.growth.specs.Adjacency.{empty}
+use Rattle.growth.specs.Growth.{Growth, grown}
 use Rattle.graph.specs.Coefficients.{coefficient, weighted}
 use Rattle.graph.specs.Built.{weightedChecks, built}
 use Rattle.graph.specs.Buildable.{Buildable}
-use Rattle.graph.proofs.Grown.{GrownWell, grown-well}
+use Rattle.growth.proofs.Grown.{GrownWell, grown-well}
 
 -- ---- variables with coefficients
 

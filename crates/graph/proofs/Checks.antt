@@ -29,10 +29,10 @@ module _ (var coef : List ℕ) (from : ℕ) where
   abbrev edge : ℕ → Edge
   edge j = (nth var (from + j), nth coef (from + j))
 
-  edges-none : edgesIn var coef from from ≡ []
+  pub edges-none : edgesIn var coef from from ≡ []
   edges-none = let z : from - from ≡ 0 = omega arith in ap (λ (k : ℕ). values k edge) z ∙ values-none edge
 
-  edges-more : (e : ℕ) → from ≤ e → edgesIn var coef from (e + 1) ≡ edgesIn var coef from e ++ (nth var e, nth coef e) ∷ []
+  pub edges-more : (e : ℕ) → from ≤ e → edgesIn var coef from (e + 1) ≡ edgesIn var coef from e ++ (nth var e, nth coef e) ∷ []
   edges-more e h =
       let k : (e + 1) - from ≡ (e - from) + 1 = omega arith in
       let z : from + (e - from) ≡ e = omega arith in

@@ -11,10 +11,9 @@ use lib.ListN.{length, replicate}
 use Rattle.lists.specs.Entry.{nth}
 use Rattle.lists.specs.Total.{total}
 use Rattle.lists.proofs.AnyBelow.{anyBelow-not}
-use Rattle.lists.proofs.Cases.{neither}
 use Rattle.calls.specs.Refusal.{refusal, misfits, misfit}
 use Rattle.calls.specs.Parts.{touchesNothing}
-use Rattle.calls.proofs.Refusal.{pass, alike}
+use Rattle.calls.proofs.Refusal.{pass, Alike, alike}
 use Rattle.calls.proofs.Parts.{refused, found, untouched, zeroed, kept, put}
 use Rattle.graph.specs.declared.NewCode.the-variants.{Built, Refused}
 use Rattle.graph.specs.Sizes.{tooLarge, codeLengths}
@@ -23,6 +22,7 @@ use Rattle.graph.specs.Descending.{descending}
 use Rattle.graph.specs.Built.{built}
 use Rattle.graph.specs.New.{Work, workLengths, workLeft, tooMany, tooHigh, refusals, numbers, New, newCode}
 use Rattle.graph.specs.Buildable.{Buildable, PartsFit, WorkFits}
+use Rattle.graph.proofs.Sizes.{sizes-small, parts-fit}
 
 -- the tests that touch nothing, and those after them
 abbrev pub earlyTests : ℕ → ℕ → List ℕ → Parts → Work → List (Bool × ℕ)
@@ -70,28 +70,25 @@ module _ (n m seed : ℕ) (degrees : List ℕ) (code : Parts) (work : Work) wher
 -- ---- what the tests leave
 
 module _ (n m : ℕ) (degrees : List ℕ) (code : Parts) (work : Work) (e : refusal (earlyTests n m degrees code work) ≡ 0) where
-  sizes : (ltb 256 n ≡ false) × (ltb 256 m ≡ false)
-  sizes = neither (ltb 256 n) (ltb 256 m) (pass (tooLarge n m) 1 _ e .0)
+  lengths : Alike ((length degrees, n) ∷ codeLengths code) × (misfit (workLengths work) ≡ false)
+  lengths = alike ((length degrees, n) ∷ codeLengths code) (misfit (workLengths work)) (pass _ 2 [] (pass (tooLarge n m) 1 _ e .1) .0)
 
   pub new-long : length degrees ≡ n
-  new-long = alike ((length degrees, n) ∷ codeLengths code) (misfit (workLengths work)) (pass _ 2 [] (pass (tooLarge n m) 1 _ e .1) .0) .0 .0
+  new-long = lengths .0 .0
 
   pub new-parts : PartsFit code
-  new-parts =
-      let a = alike ((length degrees, n) ∷ codeLengths code) (misfit (workLengths work)) (pass _ 2 [] (pass (tooLarge n m) 1 _ e .1) .0) .0 in
-      record { var = a .1 .0; coef = a .1 .1 .0; row = a .1 .1 .1 .0; start = a .1 .1 .1 .1 .0; col = a .1 .1 .1 .1 .1 .0; order = a .1 .1 .1 .1 .1 .1 .0; parity = a .1 .1 .1 .1 .1 .1 .1 .0; info = a .1 .1 .1 .1 .1 .1 .1 .1 .0; a = a .1 .1 .1 .1 .1 .1 .1 .1 .1 .0 }
+  new-parts = parts-fit code (lengths .0 .1)
 
   pub new-work : WorkFits work
   new-work =
-      let b = alike ((length degrees, n) ∷ codeLengths code) (misfit (workLengths work)) (pass _ 2 [] (pass (tooLarge n m) 1 _ e .1) .0) .1 in
-      let a = alike (workLengths work) false b .0 in
+      let a = alike (workLengths work) false (lengths .1) .0 in
       record { chk = a .0; load = a .1 .0; own = a .1 .1 .0; deg = a .1 .1 .1 .0 }
 
   pub new-buildable : refusal (lateTests n m degrees) ≡ 0 → Buildable n m degrees
   unfolding tooMany tooHigh
-  new-buildable l = record {
-    n-small = ltb-false 256 n (sizes .0);
-    m-small = ltb-false 256 m (sizes .1);
+  new-buildable l = let s = sizes-small n m (pass (tooLarge n m) 1 _ e .0) in record {
+    n-small = s .0;
+    m-small = s .1;
     long = new-long;
     low = λ v h. ltb-false m (nth degrees v) (anyBelow-not n v (λ v. ltb m (nth degrees v)) (pass (tooHigh n m degrees) 4 [] (pass (tooMany n degrees) 3 _ l .1) .0) h);
     sum = ltb-false 512 (total n (nth degrees)) (pass (tooMany n degrees) 3 _ l .0);

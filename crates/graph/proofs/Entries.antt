@@ -1,4 +1,4 @@
--- The check matrix has field elements where the coefficients are field elements.
+-- The edges' coefficients and variables inside their bounds, of any graph and of one that stands in parts; the check matrix then has field elements.
 -- Assumes nothing.
 use mathlib.Core.Path.{ap}
 use mathlib.Core.Logic.{⊎-elim}
@@ -22,6 +22,10 @@ use Rattle.graph.specs.Held.{edgesIn, held}
 -- each coefficient is below 32
 abbrev pub Small : Graph → Type 0
 Small g = (c t : ℕ) → c < checkCount g → t < length (check g c) → (getD (check g c) t (0, 0)) .1 < 32
+
+-- each variable is below n
+abbrev pub Inside : Graph → Type 0
+Inside g = (c t : ℕ) → c < checkCount g → t < length (check g c) → (getD (check g c) t (0, 0)) .0 < g .n
 
 sum-lt : (j s : ℕ) (es : List Edge) → s < 32 → ((t : ℕ) → t < length es → (getD es t (0, 0)) .1 < 32) → foldl (entryTurn j) s es < 32
 sum-lt j s [] h w = h
@@ -49,11 +53,20 @@ module _ (var coef row : List ℕ) where
   abbrev es : ℕ → List Edge
   es c = edgesIn var coef (nth row c) (nth row (c + 1))
 
-  pub held-small : (n m : ℕ) → ((c : ℕ) → c < m → nth row c ≤ nth row (c + 1)) → ((e : ℕ) → e < nth row m → nth coef e < 32) → Small (held n m var coef row)
+  -- what holds of each edge in the parts holds of each edge of the graph that they hold
+  held-each : (P : Edge → Type 0) (n m : ℕ) → ((c : ℕ) → c < m → nth row c ≤ nth row (c + 1)) → ((e : ℕ) → e < nth row m → P (nth var e, nth coef e))
+      → (c t : ℕ) → c < checkCount (held n m var coef row) → t < length (check (held n m var coef row) c) → P (getD (check (held n m var coef row) c) t (0, 0))
   unfolding held
-  held-small n m up small c t h l =
+  held-each P n m up w c t h l =
       let b : c < m = omega (arith, values-length es m) in
       let e = values-at es m c [] b in
       let k : t < nth row (c + 1) - nth row c = omega (arith, ap length e, values-length (edge c) (nth row (c + 1) - nth row c), l) in
       let top = rises m (nth row) up (c + 1) m (omega arith) (le-refl m) in
-      rw (e, values-at (edge c) (nth row (c + 1) - nth row c) t (0, 0) k) (small (nth row c + t) (omega arith))
+      rw (e, values-at (edge c) (nth row (c + 1) - nth row c) t (0, 0) k) (w (nth row c + t) (omega arith))
+
+  pub held-small : (n m : ℕ) → ((c : ℕ) → c < m → nth row c ≤ nth row (c + 1)) → ((e : ℕ) → e < nth row m → nth coef e < 32) → Small (held n m var coef row)
+  held-small n m up = held-each (λ e. e .1 < 32) n m up
+
+  pub held-inside : (n m : ℕ) → ((c : ℕ) → c < m → nth row c ≤ nth row (c + 1)) → ((e : ℕ) → e < nth row m → nth var e < n) → Inside (held n m var coef row)
+  unfolding held
+  held-inside n m up = held-each (λ e. e .0 < n) n m up

@@ -1,32 +1,28 @@
--- What parts hold a graph: its edges' variables and coefficients at their places, and its row starts.
+-- What parts hold a graph: its edges' variables and coefficients at their places, and its row starts; and the variables of a graph that parts hold.
 -- Assumes nothing.
-use Prim.Native.Nat.{ℕ, _+_, _-_, _<_, _≤_}
-use mathlib.Core.Path.{_≡_, ap, ap₂, _∙_}
-use mathlib.Core.List.{List, []}
+use Prim.Native.Nat.{ℕ, zero, suc, _+_, _-_, _<_, _≤_}
+use mathlib.Core.Path.{_≡_, sym, ap, ap₂, _∙_}
+use mathlib.Core.List.{List, [], map}
+use native.Mathlib.Nat.{le-refl}
+use native.Mathlib.Numerals.{add-one}
 use native.Mathlib.Omega.{arith}
-use lib.ListN.{length, getD, List·getD-map}
+use lib.ListN.{length}
 use lib.Seq.{ext-getD}
 use Rattle.lists.specs.Entry.{nth}
-use Rattle.lists.specs.Chain.{startOf}
-use Rattle.lists.proofs.Values.{values-length, values-at, values-ext, values-own}
-use Rattle.lists.proofs.Chain.{start-is, start-more, start-part, chain-at}
+use Rattle.lists.specs.Chain.{chain, startOf}
+use Rattle.lists.specs.Values.{values}
+use Rattle.lists.proofs.Values.{values-length, values-at, values-ext, values-own, map-values}
+use Rattle.lists.proofs.Chain.{start-none, start-more, chain-ext, map-chain, chain-values}
 use Rattle.graph.specs.Graph.{Edge, Graph, checkCount, check, edges}
 use Rattle.graph.specs.Parts.{variables, coefficients}
 use Rattle.graph.specs.Held.{edgesIn, held}
+use Rattle.graph.specs.Sound.{Starts}
+use Rattle.graph.proofs.RowStarts.{edge-inside, variable-at, coefficient-at}
 
 module _ (g : Graph) (var coef row : List ℕ)
     (vars : (e : ℕ) → e < length (edges g) → nth var e ≡ nth (variables g) e)
     (coefs : (e : ℕ) → e < length (edges g) → nth coef e ≡ nth (coefficients g) e)
     (starts : (c : ℕ) → c ≤ checkCount g → nth row c ≡ startOf (check g) c) where
-  -- edge j of check c
-  at : (c j : ℕ) → c < checkCount g → j < length (check g c) → getD (edges g) (startOf (check g) c + j) (0, 0) ≡ getD (check g c) j (0, 0)
-  unfolding edges
-  at c j h l = chain-at (check g) (checkCount g) c j (0, 0) h l
-
-  inside : (c j : ℕ) → c < checkCount g → j < length (check g c) → startOf (check g) c + j < length (edges g)
-  unfolding edges
-  inside c j h l = omega (arith, start-part (check g) (checkCount g) c h, start-is (check g) (checkCount g))
-
   same-check : (c : ℕ) → c < checkCount g → edgesIn var coef (nth row c) (nth row (c + 1)) ≡ check g c
   same-check c h =
       ap₂ (edgesIn var coef) (starts c (omega arith)) (starts (c + 1) (omega arith))
@@ -34,9 +30,7 @@ module _ (g : Graph) (var coef row : List ℕ)
       (λ j l.
       let k : j < length (check g c) = omega (arith, long) in
       values-at (λ j. (nth var (from + j), nth coef (from + j))) (to - from) j (0, 0) (omega (arith, long′))
-      ∙ ap₂ (λ (x y : ℕ). (x, y))
-      (vars (from + j) (inside c j h k) ∙ List·getD-map (λ (e : Edge). e .0) (edges g) (from + j) (0, 0) ∙ ap (λ (e : Edge). e .0) (at c j h k))
-      (coefs (from + j) (inside c j h k) ∙ List·getD-map (λ (e : Edge). e .1) (edges g) (from + j) (0, 0) ∙ ap (λ (e : Edge). e .1) (at c j h k)))
+      ∙ ap₂ (λ (x y : ℕ). (x, y)) (vars (from + j) (edge-inside g c j h k) ∙ variable-at g c j h k) (coefs (from + j) (edge-inside g c j h k) ∙ coefficient-at g c j h k))
     where
       from : ℕ
       from = startOf (check g) c
@@ -55,3 +49,50 @@ module _ (g : Graph) (var coef row : List ℕ)
   held-is =
       ap (λ (cs : List (List Edge)). record { n = g .n; checks = cs })
       (values-ext (checkCount g) (λ c. edgesIn var coef (nth row c) (nth row (c + 1))) (check g) [] same-check ∙ values-own [] (g .checks))
+
+pub held-checks : (n m : ℕ) (var coef row : List ℕ) → checkCount (held n m var coef row) ≡ m
+unfolding held
+held-checks n m var coef row = values-length (λ c. edgesIn var coef (nth row c) (nth row (c + 1))) m
+
+module _ (n m count : ℕ) (var coef row : List ℕ) (w : Starts m count (nth row)) where
+  abbrev part : ℕ → List Edge
+  part c = edgesIn var coef (nth row c) (nth row (c + 1))
+
+  -- the variables of check c
+  abbrev own : ℕ → List ℕ
+  own c = values (nth row (c + 1) - nth row c) (λ j. nth var (nth row c + j))
+
+  own-start : (c : ℕ) → c ≤ m → startOf own c ≡ nth row c
+  own-start zero h = start-none own ∙ sym (w .first)
+  own-start (suc c) h =
+      let e = start-more own c in
+      let l = values-length (λ j. nth var (nth row c + j)) (nth row (c + 1) - nth row c) in
+      let i = own-start c (omega arith) in
+      let r = w .rise c (omega arith) in
+      let q : startOf own (c + 1) ≡ nth row (c + 1) = omega arith in
+      rw (← add-one c) q
+
+  abbrev variable : Edge → ℕ
+  variable e = e .0
+
+  -- check c of the graph that the parts hold
+  abbrev checkAt : ℕ → List Edge
+  checkAt = check (held n m var coef row)
+
+  check-own : (c : ℕ) → c < m → map variable (checkAt c) ≡ values (length (own c)) (λ j. nth var (startOf own c + j))
+  unfolding held
+  check-own c h =
+      let k = nth row (c + 1) - nth row c in
+      let l = values-length (λ j. nth var (nth row c + j)) k in
+      ap (map variable) (values-at part m c [] h)
+      ∙ map-values variable k (λ j. (nth var (nth row c + j), nth coef (nth row c + j)))
+      ∙ ap₂ (λ (k i : ℕ). values k (λ j. nth var (i + j))) (sym l) (sym (own-start c (omega arith)))
+
+  pub held-variables : variables (held n m var coef row) ≡ values count (nth var)
+  unfolding edges
+  held-variables =
+      map-chain variable (checkCount (held n m var coef row)) checkAt
+      ∙ ap (λ (k : ℕ). chain k (λ c. map variable (checkAt c))) (held-checks n m var coef row)
+      ∙ chain-ext m (λ c. map variable (checkAt c)) (λ c. values (length (own c)) (λ j. nth var (startOf own c + j))) check-own
+      ∙ chain-values m own (nth var)
+      ∙ ap (λ (k : ℕ). values k (nth var)) (own-start m (le-refl m) ∙ w .last)

@@ -4,9 +4,10 @@ use mathlib.Core.Path.{_≡_, sym, ap, _∙_}
 use mathlib.Core.Logic.{_≢_, _⊎_, inl, inr, ⊎-elim}
 use mathlib.Core.Bool.{Bool, not}
 use Prim.Native.Nat.{ℕ, _+_, _-_, _*_, _<_, _≤_}
-use native.Mathlib.Nat.{mul-comm, mul-add, mul-le-mul-left, mul-le-mul-right}
+use native.Mathlib.Nat.{mul-comm, mul-zero, mul-add, mul-le-mul-left, mul-le-mul-right}
 use native.Mathlib.Omega.{arith}
 use borrow.Author.Tests.{not-true}
+use lib.Dec.{lit≤}
 use lib.ListN.{length}
 use Rattle.lists.specs.Among.{among}
 use Rattle.lists.specs.Entry.{nth}
@@ -53,6 +54,14 @@ half-square a b h l =
 pub square : (a b : ℕ) → a + b ≤ 256 → a * b ≤ 16384
 square a b l =
     ⊎-elim (λ h. half-square a b (omega arith) l) (λ h. rw (mul-comm a b) (half-square b a (omega arith) (omega arith))) (less-or-not a 128)
+
+-- a number and what is left of n, whether or not the number is at most n
+pub rest-square : (n a : ℕ) → n ≤ 256 → a * (n - a) ≤ 16384
+rest-square n a l =
+    ⊎-elim
+    (λ h. square a (n - a) (omega arith))
+    (λ (h : n ≤ a). let e : n - a ≡ 0 = omega arith in rw (e, mul-zero a) (lit≤ tt))
+    (less-or-not a n)
 
 -- ---- of the state that elimination gives
 

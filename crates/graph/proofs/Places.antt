@@ -1,7 +1,7 @@
 -- Laws of the lists by variable: each holds its variable's edges and nothing else, ascending, and together they hold every edge once.
 -- Assumes nothing.
 use Prim.Native.Nat.{ℕ, zero, suc, _+_, _<_, _≤_}
-use mathlib.Core.Path.{_≡_, ap, sym, _∙_}
+use mathlib.Core.Path.{_≡_, ap, sym, _∙_, subst}
 use mathlib.Core.Bool.{Bool}
 use mathlib.Core.List.{List, [], _∷_}
 use mathlib.Core.Logic.{⊎-elim}
@@ -14,13 +14,15 @@ use lib.ListN.{length, length-append}
 use lib.Seq.{take-length}
 use Rattle.lists.specs.Entry.{nth}
 use Rattle.lists.specs.Keep.{keepBelow}
-use Rattle.lists.specs.Chain.{startOf}
+use Rattle.lists.specs.Chain.{chain, startOf}
+use Rattle.lists.specs.EachOnce.{EachOnce}
 use Rattle.lists.specs.Times.{times}
 use Rattle.lists.proofs.Cases.{same-or-not, less-or-not}
 use Rattle.lists.proofs.Tally.{tally-yes}
 use Rattle.lists.proofs.Keep.{keepBelow-yes, keepBelow-no, keepBelow-empty, keepBelow-up, keepBelow-length, keepBelow-has, keepBelow-passes, keepBelow-ascends}
 use Rattle.lists.proofs.Times.{times-places}
-use Rattle.lists.proofs.Chain.{start-none, start-more}
+use Rattle.lists.proofs.Chain.{start-none, start-more, start-is, chain-at, chain-place}
+use Rattle.lists.proofs.EachOnce.{ascends-distinct}
 use Rattle.graph.specs.Parts.{places}
 
 -- whether edge e is v's
@@ -125,3 +127,28 @@ module _ (vars : List ℕ) (v : ℕ) where
   pub places-times : length (places vars v) ≡ times v vars
   unfolding places
   places-times = times-places vars v (length vars) (le-refl (length vars)) ∙ ap (times v) (take-length vars)
+
+-- ---- together they hold each edge once
+
+module _ (vars : List ℕ) (n : ℕ) (low : (e : ℕ) → e < length vars → nth vars e < n) where
+  -- the entry at place t is entry j of v's list
+  entry : (t : ℕ) → t < length vars → (v : ℕ) × (j : ℕ) × (j < length (places vars v)) × (t ≡ startOf (places vars) v + j) × (nth (chain n (places vars)) t ≡ nth (places vars v) j)
+  entry t h =
+      let r = chain-place (places vars) n t (omega (arith, places-all vars n low, start-is (places vars) n)) in
+      (r .0, r .1, r .3, r .4, ap (nth (chain n (places vars))) (r .4) ∙ chain-at (places vars) n (r .0) (r .1) 0 (r .2) (r .3))
+
+  same : (v w j k : ℕ) → v ≡ w → j < length (places vars v) → k < length (places vars w) → nth (places vars v) j ≡ nth (places vars w) k → startOf (places vars) v + j ≡ startOf (places vars) w + k
+  same v w j k e =
+      subst (λ (w : ℕ). j < length (places vars v) → k < length (places vars w) → nth (places vars v) j ≡ nth (places vars w) k → startOf (places vars) v + j ≡ startOf (places vars) w + k) e
+      (λ h l q. ap (λ (i : ℕ). startOf (places vars) v + i) (ascends-distinct (length (places vars v)) (nth (places vars v)) (places-ascend vars v) j k h l q))
+
+  pub places-once : EachOnce (length vars) (nth (chain n (places vars)))
+  places-once = record {
+    inside = λ t h. let r = entry t h in omega (arith, r .4, places-own vars (r .0) (r .1) (r .2) .0);
+    distinct = λ t u h l q.
+        let r = entry t h in
+        let s = entry u l in
+        let e = sym (r .4) ∙ q ∙ s .4 in
+        let o = sym (places-own vars (r .0) (r .1) (r .2) .1) ∙ ap (nth vars) e ∙ places-own vars (s .0) (s .1) (s .2) .1 in
+        r .3 ∙ same (r .0) (s .0) (r .1) (s .1) o (r .2) (s .2) e ∙ sym (s .3);
+  }

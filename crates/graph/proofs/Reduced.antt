@@ -23,10 +23,11 @@ use Rattle.graph.specs.Graph.{Graph, checkCount}
 use Rattle.graph.specs.Matrix.{matrixOf}
 use Rattle.graph.specs.Elimination.{State, eliminated, reduced, infos}
 use Rattle.graph.specs.Parts.{table}
-use Rattle.graph.specs.Held.{edgesIn, held}
+use Rattle.graph.specs.Held.{held}
 use Rattle.graph.specs.Standing.{Stands}
 use Rattle.graph.proofs.Eliminated.{Eliminated, eliminated-is}
 use Rattle.graph.proofs.Entries.{Small, matrix-lt, held-small}
+use Rattle.graph.proofs.Held.{held-checks}
 use Rattle.graph.proofs.Infos.{info-inside}
 use Rattle.graph.proofs.Alike.{eliminated-order}
 
@@ -41,10 +42,6 @@ unfolding reduced
 reduced-order g p q e = eliminated-order (checkCount g) (g .n) (nth p) (nth q) (matrixOf g) e
 
 -- ---- in parts
-
-pub held-checks : (n m : ℕ) (var coef row : List ℕ) → checkCount (held n m var coef row) ≡ m
-unfolding held
-held-checks n m var coef row = values-length (λ c. edgesIn var coef (nth row c) (nth row (c + 1))) m
 
 pub reduced-held : (n m : ℕ) (var coef row order : List ℕ) → eliminated m (nth order) (matrixOf (held n m var coef row)) n ≡ reduced (held n m var coef row) order
 unfolding reduced held

@@ -6,8 +6,8 @@ use Rattle.lists.specs.Entry.{nth}
 use Rattle.lists.specs.Values.{values}
 use Rattle.lists.specs.Chain.{startOf}
 use Rattle.graph.specs.Graph.{Edge, Graph}
-use Rattle.graph.specs.Adjacency.{empty}
-use Rattle.graph.specs.Growth.{Growth, grown}
+use Rattle.growth.specs.Adjacency.{empty}
+use Rattle.growth.specs.Growth.{Growth, grown}
 use Rattle.graph.specs.Coefficients.{weighted}
 
 -- m checks with the variables of g, their coefficients drawn check by check from state s on

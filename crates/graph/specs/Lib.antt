@@ -1,8 +1,4 @@
 pub mod Graph
-pub mod Adjacency
-pub mod PickMin
-pub mod Search
-pub mod Growth
 pub mod Coefficients
 pub mod Built
 pub mod Matrix
@@ -14,8 +10,10 @@ pub mod Held
 pub mod Sizes
 pub mod EvenDegrees
 pub mod New
-pub mod Rows
-pub mod Served
+pub mod Malformed
+pub mod Misencoded
+pub mod LentCode
 pub mod Standing
 pub mod Encodable
 pub mod Buildable
+pub mod Sound

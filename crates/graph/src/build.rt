@@ -12,7 +12,6 @@ use crate::Code;
 use crate::clear;
 use crate::edges;
 use crate::encoder;
-use crate::growth;
 
 // Every entry of the work parts 0.
 pub fn clear_work(chk: &mut [u8], load: &mut [u16], own: &mut [u8], deg: &mut [u16])

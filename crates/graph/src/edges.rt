@@ -6,7 +6,7 @@ ghost use Rattle.lists.specs.Entry.{nth};
 ghost use Rattle.lists.specs.Values.{values};
 ghost use Rattle.lists.specs.Chain.{chain, startOf};
 ghost use Rattle.lists.specs.Laid.{laid, laidFrom};
-ghost use Rattle.graph.specs.Rows.{rows, Table};
+ghost use Rattle.growth.specs.Rows.{rows, Table};
 ghost use Rattle.graph.specs.Parts.{places};
 ghost use Rattle.graph.specs.Coefficients.{coefficient};
 ghost use Rattle.graph.specs.Descending.{descending};

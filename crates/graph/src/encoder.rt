@@ -33,7 +33,7 @@ fn add_check(h: &mut [u8], i: usize, var: &[u16], coef: &[u8], from: usize, to: 
 }
 
 // The check matrix.
-fn matrix(m: usize, var: &[u16], coef: &[u8], row: &[u16], h: &mut [u8])
+pub fn matrix(m: usize, var: &[u16], coef: &[u8], row: &[u16], h: &mut [u8])
     requires { ⌜ Graphed m (now var) (now coef) (now row) ⌝ }
     requires { ⌜ length (now h) ≡ 65536 ⌝ }
     ensures { λ _. ⌜ ((n : ℕ) → n ≤ 256 → Holds m n (matrixOf (held n m (now (var .entry)) (now (coef .entry)) (now (row .entry)))) (now (h .exit))) ⌝ }
@@ -47,7 +47,7 @@ fn matrix(m: usize, var: &[u16], coef: &[u8], row: &[u16], h: &mut [u8])
 }
 
 // Whether one of the first r pivots is j.
-fn is_pivot(parity: &[u16], r: usize, j: usize) -> bool
+pub fn is_pivot(parity: &[u16], r: usize, j: usize) -> bool
     requires { ⌜ r ≤ length (now parity) ⌝ }
     ensures { λ b. ⌜ b ≡ among r (nth (now (parity .entry))) j ⌝ }
 {

@@ -5,16 +5,16 @@ ghost use Rattle.graph.specs.Parts.{lent};
 ghost use Rattle.graph.specs.New.{New, newCode, lentWork};
 
 mod build;
-mod clear;
+pub mod clear;
 mod degrees;
 mod edges;
 mod elimination;
 mod encoder;
-mod growth;
+pub mod lent;
+mod malformed;
 mod matrix_rows;
-mod pick_min;
+mod misencoded;
 mod refusals;
-mod search;
 
 // The numbers of a code; its parts are lent beside them.
 pub struct Code {

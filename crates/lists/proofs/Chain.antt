@@ -1,10 +1,10 @@
 -- Laws of lists one after another: what is appended, where each list begins, and what stands there.
 -- Assumes nothing.
-use Prim.Native.Nat.{ℕ, zero, suc, _+_, _-_, _<_, _≤_}
+use Prim.Native.Nat.{ℕ, zero, suc, _+_, _-_, _*_, _<_, _≤_}
 use mathlib.Core.Path.{_≡_, refl, ap, ap₂, sym, _∙_, subst}
 use mathlib.Core.List.{List, [], _++_, map, map-append}
 use mathlib.Core.Logic.{⊎-elim}
-use native.Mathlib.Nat.{le-refl, le-step, le-of-suc-le-suc, eq-or-lt-of-le, not-suc-le-zero}
+use native.Mathlib.Nat.{le-refl, le-step, le-of-suc-le-suc, eq-or-lt-of-le, not-suc-le-zero, zero-mul, suc-mul}
 use native.Mathlib.Numerals.{add-one}
 use native.Mathlib.Omega.{arith}
 use lib.ListN.{length, getD, length-append, List·getD-append}
@@ -75,19 +75,20 @@ module _ {ℓ} {A : Type ℓ} (f : ℕ → List A) where
           ap (λ (w : ℕ). getD (chain n f ++ f n) (w + j) d) (ap (startOf f) e ∙ start-is n)
           ∙ getD-append-add (chain n f) (f n) j d ∙ ap (λ (w : ℕ). getD (f w) j d) (sym e)
 
+  -- each entry is one of a list
+  pub chain-place : (n e : ℕ) → e < length (chain n f) → (k : ℕ) × (j : ℕ) × (k < n) × (j < length (f k)) × (e ≡ startOf f k + j)
+  chain-place zero e h = absurd (not-suc-le-zero (rw chain-none at h))
+  chain-place (suc n) e h =
+      ⊎-elim
+      (λ b. let r = chain-place n e b in (r .0, r .1, le-step (r .2), r .3, r .4))
+      (λ b. let m = ap length (chain-suc n) ∙ length-append (chain n f) (f n) in (n, e - length (chain n f), le-refl (suc n), omega arith, omega (arith, start-is n)))
+      (less-or-not e (length (chain n f)))
+
   -- what holds of each list's entries
   pub chain-each {ℓ′} : (P : A → Type ℓ′) (d : A) (n : ℕ) → ((k j : ℕ) → k < n → j < length (f k) → P (getD (f k) j d)) → (e : ℕ) → e < length (chain n f) → P (getD (chain n f) e d)
-  chain-each P d zero h e l = absurd (not-suc-le-zero (rw chain-none at l))
-  chain-each P d (suc n) h e l =
-      subst (λ (w : List A). P (getD w e d)) (sym (chain-suc n))
-      (⊎-elim
-      (λ b. subst P (sym (List·getD-append (chain n f) (f n) d e b)) (chain-each P d n (λ k j a c. h k j (le-step a) c) e b))
-      (λ b.
-      let j : ℕ = e - length (chain n f) in
-      let q : e ≡ length (chain n f) + j = omega arith in
-      let m = ap length (chain-suc n) ∙ length-append (chain n f) (f n) in
-      subst P (sym (ap (λ (i : ℕ). getD (chain n f ++ f n) i d) q ∙ getD-append-add (chain n f) (f n) j d)) (h n j (le-refl (suc n)) (omega arith)))
-      (less-or-not e (length (chain n f))))
+  chain-each P d n h e l =
+      let r = chain-place n e l in
+      subst P (sym (ap (λ (i : ℕ). getD (chain n f) i d) (r .4) ∙ chain-at n (r .0) (r .1) d (r .2) (r .3))) (h (r .0) (r .1) (r .2) (r .3))
 
   -- ---- in a part that a loop fills, list after list
 
@@ -116,6 +117,15 @@ map-chain h (suc n) f =
 pub start-lengths {ℓ ℓ′} : {A : Type ℓ} {B : Type ℓ′} (n : ℕ) (f : ℕ → List A) (g : ℕ → List B) → ((k : ℕ) → k < n → length (f k) ≡ length (g k)) → startOf f n ≡ startOf g n
 start-lengths n f g e =
     start-is f n ∙ chain-length f n ∙ total-ext n (λ k. length (f k)) (λ k. length (g k)) e ∙ sym (start-is g n ∙ chain-length g n)
+
+-- n lists of k entries each
+pub chain-even {ℓ} : {A : Type ℓ} (k n : ℕ) (f : ℕ → List A) → ((i : ℕ) → i < n → length (f i) ≡ k) → length (chain n f) ≡ n * k
+chain-even k zero f e = ap length (chain-none f) ∙ sym (zero-mul k)
+chain-even k (suc n) f e =
+    let i = chain-even k n f (λ i h. e i (le-step h)) in
+    let a = ap length (chain-suc f n) ∙ length-append (chain n f) (f n) in
+    let b = e n (le-refl (suc n)) in
+    omega (arith, suc-mul n k)
 
 -- values that run on from list to list
 pub chain-values {ℓ ℓ′} : {A : Type ℓ} {B : Type ℓ′} (n : ℕ) (f : ℕ → List A) (h : ℕ → B) → chain n (λ k. values (length (f k)) (λ j. h (startOf f k + j))) ≡ values (startOf f n) h

@@ -105,10 +105,31 @@ module _ (n : ℕ) (f : ℕ → ℕ) where
   unfolding eachOnce
   eachOnce-true e = let b = neither (outside n n f) (repeated n f) (not-true (outside n n f || repeated n f) e) in record { inside = not-outside n (b .0); distinct = not-repeated (b .1) }
 
+  pub none-outside : (m : ℕ) → ((t : ℕ) → t < n → f t < m) → outside m n f ≡ false
+  unfolding outside
+  none-outside m i = anyBelow-none n (λ t. leb m (f t)) (λ t h. lt-leb m (f t) (i t h))
+
+  pub none-repeated : ((t v : ℕ) → t < n → v < n → f t ≡ f v → t ≡ v) → repeated n f ≡ false
+  unfolding repeated
+  none-repeated d =
+      anyBelow-none n (λ t. anyBelow t (λ v. eqb (f t) (f v)))
+      (λ t h. anyBelow-none t (λ v. eqb (f t) (f v)) (λ v l. ne-eqb (f t) (f v) (λ q. let e = d t v h (omega arith) q in omega arith)))
+
   pub true-eachOnce : EachOnce n f → eachOnce n f ≡ true
-  unfolding eachOnce outside repeated
-  true-eachOnce w =
-      rw (
-        anyBelow-none n (λ t. leb n (f t)) (λ t h. lt-leb n (f t) (w .inside t h)),
-        anyBelow-none n (λ t. anyBelow t (λ v. eqb (f t) (f v))) (λ t h. anyBelow-none t (λ v. eqb (f t) (f v)) (λ v l. ne-eqb (f t) (f v) (λ q. let e = w .distinct t v h (omega arith) q in omega arith))),
-      )
+  unfolding eachOnce
+  true-eachOnce w = rw (none-outside n (w .inside), none-repeated (w .distinct))
+
+-- ---- two rules that agree below n, and a rule that ascends
+
+pub eachOnce-ext : (n : ℕ) (f g : ℕ → ℕ) → ((t : ℕ) → t < n → f t ≡ g t) → EachOnce n g → EachOnce n f
+eachOnce-ext n f g e w = record {
+  inside = λ t h. omega (arith, e t h, w .inside t h);
+  distinct = λ t v h l q. w .distinct t v h l (sym (e t h) ∙ q ∙ e v l);
+}
+
+pub ascends-distinct : (n : ℕ) (f : ℕ → ℕ) → ((t v : ℕ) → t < v → v < n → f t < f v) → (t v : ℕ) → t < n → v < n → f t ≡ f v → t ≡ v
+ascends-distinct n f a t v h l q =
+    ⊎-elim
+    (λ b. absurd (omega (arith, a t v b l)))
+    (λ b. ⊎-elim (λ e. e) (λ e. absurd (omega (arith, a v t (omega (arith, e)) h))) (same-or-not t v))
+    (less-or-not t v)

@@ -89,23 +89,26 @@ module _ (test : ℕ → Bool) where
   last-or-before : (m t : ℕ) → test m ≡ true → t < length (keepBelow test (suc m)) → (t ≡ length (keepBelow test m)) ⊎ (t < length (keepBelow test m))
   last-or-before m t y h = let e = ap length (keepBelow-yes m y) ∙ length-append (keepBelow test m) (m ∷ []) in eq-or-lt-of-le (omega arith)
 
-  -- a number below m that passes is there
-  pub keepBelow-has : (m j : ℕ) → j < m → test j ≡ true → (t : ℕ) × (t < length (keepBelow test m)) × (getD (keepBelow test m) t 0 ≡ j)
-  keepBelow-has zero j h p = absurd (not-suc-le-zero h)
-  keepBelow-has (suc m) j h p =
+  -- a number below m that passes is there, after those below it
+  pub keepBelow-at : (m j : ℕ) → j < m → test j ≡ true → (length (keepBelow test j) < length (keepBelow test m)) × (getD (keepBelow test m) (length (keepBelow test j)) 0 ≡ j)
+  keepBelow-at zero j h p = absurd (not-suc-le-zero h)
+  keepBelow-at (suc m) j h p =
       let old = keepBelow test m in
       ⊎-elim
-      (λ e. rw (keepBelow-yes m (rw e at p)) (length old, appended (length old) (omega arith), getD-append-seam old m [] 0 ∙ sym e))
+      (λ e. rw (keepBelow-yes m (rw e at p), e) (appended (length old) (omega arith), getD-append-seam old m [] 0))
       (λ l.
-      let r = keepBelow-has m j l p in
+      let r = keepBelow-at m j l p in
       ⊎-elim
-      (λ y. rw (keepBelow-yes m y) (r .0, appended (r .0) (le-of-lt (r .1)), List·getD-append old (m ∷ []) 0 (r .0) (r .1) ∙ r .2))
+      (λ y. rw (keepBelow-yes m y) (appended (length (keepBelow test j)) (le-of-lt (r .0)), List·getD-append old (m ∷ []) 0 (length (keepBelow test j)) (r .0) ∙ r .1))
       (λ n. rw (keepBelow-no m n) r)
       (true-or-false (test m)))
       (eq-or-lt-of-le (le-of-suc-le-suc h))
     where
       appended : (t : ℕ) → t ≤ length (keepBelow test m) → t < length (keepBelow test m ++ m ∷ [])
       appended t l = rw length-append (omega arith)
+
+  pub keepBelow-has : (m j : ℕ) → j < m → test j ≡ true → (t : ℕ) × (t < length (keepBelow test m)) × (getD (keepBelow test m) t 0 ≡ j)
+  keepBelow-has m j h p = let r = keepBelow-at m j h p in (length (keepBelow test j), r .0, r .1)
 
   -- what is there is a number below m that passes
   pub keepBelow-passes : (m t : ℕ) → t < length (keepBelow test m) → (getD (keepBelow test m) t 0 < m) × (test (getD (keepBelow test m) t 0) ≡ true)

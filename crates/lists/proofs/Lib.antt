@@ -10,6 +10,7 @@ pub mod Values
 pub mod Each
 pub mod Changed
 pub mod Keep
+pub mod Front
 pub mod Tally
 pub mod Among
 pub mod EachOnce
@@ -19,3 +20,5 @@ pub mod Kept
 pub mod Total
 pub mod Chain
 pub mod Times
+pub mod Marked
+pub mod UsedPast

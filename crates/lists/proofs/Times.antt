@@ -17,7 +17,7 @@ use Rattle.lists.specs.Entry.{nth}
 use Rattle.lists.specs.Times.{times}
 use Rattle.lists.specs.Total.{total}
 use Rattle.lists.specs.Chain.{chain}
-use Rattle.lists.proofs.Cases.{same-or-not, true-or-false}
+use Rattle.lists.proofs.Cases.{same-or-not, less-or-not, true-or-false}
 use Rattle.lists.proofs.Choice.{pick-true, pick-false, pick-same, pick-other}
 use Rattle.lists.proofs.Fold.{take-more}
 use Rattle.lists.proofs.Keep.{keepBelow-yes, keepBelow-no, keepBelow-empty}
@@ -182,3 +182,41 @@ times-chain x zero f = ap (times x) (chain-none f) ∙ times-none x ∙ sym (tot
 times-chain x (suc n) f =
     ap (times x) (chain-suc f n) ∙ times-append x (chain n f) (f n)
     ∙ ap (λ (k : ℕ). k + times x (f n)) (times-chain x n f) ∙ sym (total-suc (λ k. times x (f k)) n)
+
+-- ---- lists of the same entries
+
+-- no number stands twice where entries are distinct
+pub times-once : (l : List ℕ) → ((t v : ℕ) → t < length l → v < length l → nth l t ≡ nth l v → t ≡ v) → (x : ℕ) → times x l ≤ 1
+times-once [] d x = omega (arith, times-none x)
+times-once (y ∷ l) d x =
+    let i = times-once l (λ t v h k e. omega (arith, d (suc t) (suc v) (omega arith) (omega arith) e)) x in
+    ⊎-elim
+    (λ e. ⊎-elim
+    (λ q. let r = times-has x l q in absurd (omega (arith, d 0 (suc (r .0)) (zero-lt-suc (length l)) (omega (arith, r .1)) (sym e ∙ sym (r .2)))))
+    (λ q. omega (arith, times-same x y l e))
+    (less-or-not 0 (times x l)))
+    (λ n. omega (arith, times-other x y l n))
+    (same-or-not x y)
+
+-- each entry of a is one of b
+abbrev pub Inside : List ℕ → List ℕ → Type 0
+Inside a b = (t : ℕ) → t < length a → (u : ℕ) × (u < length b) × (nth b u ≡ nth a t)
+
+inside-times : (a b : List ℕ) → Inside a b → (x : ℕ) → 0 < times x a → 0 < times x b
+inside-times a b w x h =
+    let r = times-has x a h in
+    let s = w (r .0) (r .1) in
+    let e : nth b (s .0) ≡ x = s .2 ∙ r .2 in
+    rw e at (times-at b (s .0) (s .1))
+
+pub times-alike : (a b : List ℕ) → ((x : ℕ) → times x a ≤ 1) → ((x : ℕ) → times x b ≤ 1) → Inside a b → Inside b a → (x : ℕ) → times x a ≡ times x b
+times-alike a b f g v w x =
+    ⊎-elim
+    (λ h. omega (arith, f x, g x, inside-times a b v x h))
+    (λ (h : times x a ≤ 0). ⊎-elim (λ l. absurd (omega (arith, inside-times b a w x l))) (λ l. omega arith) (less-or-not 0 (times x b)))
+    (less-or-not 0 (times x a))
+
+-- of numbers below n
+pub times-lengths : (n : ℕ) (a b : List ℕ) → ((x : ℕ) → 0 < times x a → x < n) → ((x : ℕ) → times x a ≡ times x b) → length a ≡ length b
+times-lengths n a b h e =
+    sym (total-times n a h) ∙ total-ext n (λ x. times x a) (λ x. times x b) (λ x _. e x) ∙ total-times n b (λ x k. h x (omega (arith, e x)))

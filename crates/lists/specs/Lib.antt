@@ -9,6 +9,7 @@ pub mod Values
 pub mod Each
 pub mod Changed
 pub mod Keep
+pub mod Front
 pub mod EachOnce
 pub mod Laid
 pub mod Chain

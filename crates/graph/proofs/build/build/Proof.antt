@@ -8,7 +8,6 @@ use borrow.Author.Needs.{needs}
 use denote.Ref.{now}
 use lib.ListN.{length}
 use Rattle.lists.specs.Values.{values}
-use Rattle.lists.specs.Laid.{laid}
 use Rattle.calls.specs.Parts.{padded}
 use Rattle.calls.proofs.Parts.{padded-filled}
 use Rattle.graph.specs.declared.Code.{Code}
@@ -21,7 +20,7 @@ use Rattle.graph.specs.Built.{built}
 use Rattle.graph.specs.New.{numbers}
 use Rattle.graph.specs.Encodable.{Encodable}
 use Rattle.graph.proofs.Built.{built-n, built-m}
-use Rattle.graph.proofs.BuiltParts.{parts-encodable, parts-reduced}
+use Rattle.graph.proofs.BuiltWell.{built-encodable, built-reduced}
 use Rattle.graph.proofs.build.build.Statement.{statement}
 use Rattle.graph.proofs.build.build.Tie as tie
 
@@ -89,11 +88,11 @@ module _ (c : tie.After-lay-order) where
   order-is = padded-filled 256 _ 0 _ _ _ (S w .pre .1 .0 .order) (cleared w .clear-code .ensures .5) (c .lay-order .ensures)
 
   encodable : Encodable (n w) (m w) (w .build-graph .last .1 .1 .1 .1 .0) (w .build-graph .last .1 .1 .1 .1 .1 .0) (w .build-graph .last .1 .1 .1 .1 .1 .1 .0) (c .lay-order .last .1 .0)
-  encodable = encodable-by _ _ _ _ _ _ _ _ _ _ (var-is w) (coef-is w) (row-is w) order-is (parts-encodable (n w) (m w) (degrees w) (seed w) (S w .pre .0))
+  encodable = encodable-by _ _ _ _ _ _ _ _ _ _ (var-is w) (coef-is w) (row-is w) order-is (built-encodable (n w) (m w) (degrees w) (seed w) (S w .pre .0))
 
   -- what elimination of the parts gives is what it gives of the code
   reduced-is : reduced (held (n w) (m w) (w .build-graph .last .1 .1 .1 .1 .0) (w .build-graph .last .1 .1 .1 .1 .1 .0) (w .build-graph .last .1 .1 .1 .1 .1 .1 .0)) (c .lay-order .last .1 .0) ≡ reduced (g w) (descending (n w))
-  reduced-is = reduced-by (n w) (m w) _ _ _ _ _ _ _ _ (var-is w) (coef-is w) (row-is w) order-is ∙ parts-reduced (n w) (m w) (degrees w) (seed w) (S w .pre .0)
+  reduced-is = reduced-by (n w) (m w) _ _ _ _ _ _ _ _ (var-is w) (coef-is w) (row-is w) order-is ∙ built-reduced (n w) (m w) (degrees w) (seed w) (S w .pre .0)
 
 module _ (c : tie.After-build-encoder) where
   abbrev o : tie.After-lay-order

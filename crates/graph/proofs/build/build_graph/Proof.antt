@@ -13,8 +13,8 @@ use Rattle.lists.specs.Laid.{laid}
 use Rattle.lists.proofs.Laid.{laid-take}
 use Rattle.graph.specs.Graph.{Edge, Graph, edges}
 use Rattle.graph.specs.Parts.{variables, coefficients, places, rowStarts, columns, columnStarts}
-use Rattle.graph.specs.Growth.{Growth}
-use Rattle.graph.specs.Rows.{rows}
+use Rattle.growth.specs.Growth.{Growth}
+use Rattle.growth.specs.Rows.{rows}
 use Rattle.graph.specs.Coefficients.{coefficient}
 use Rattle.graph.specs.Built.{built}
 use Rattle.graph.proofs.Built.{growth, grownChk, built-variables, built-coefficients, built-count, built-row-starts, built-columns, built-column-starts, grown-few}

@@ -10,8 +10,8 @@ use lib.Seq.{take-all, length-take-le}
 use Rattle.lists.specs.Laid.{laidFrom}
 use Rattle.lists.proofs.Fold.{take-more}
 use Rattle.lists.proofs.Laid.{from-start, from-on}
-use Rattle.graph.specs.Rows.{rows}
-use Rattle.graph.proofs.Rows.{rows-length, rows-at}
+use Rattle.growth.specs.Rows.{rows}
+use Rattle.growth.proofs.Rows.{rows-length, rows-at}
 use Rattle.graph.proofs.edges.lay_check.Statement.{statement}
 use Rattle.graph.proofs.edges.lay_check.Tie as tie
 

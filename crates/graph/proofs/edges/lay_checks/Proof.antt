@@ -12,8 +12,8 @@ use Rattle.lists.specs.Laid.{laid}
 use Rattle.lists.proofs.Values.{values-length}
 use Rattle.lists.proofs.Chain.{start-none, start-more, start-up, chain-start, chain-on}
 use Rattle.lists.proofs.Laid.{laid-set, fill-first, fill-on}
-use Rattle.graph.specs.Rows.{rows}
-use Rattle.graph.proofs.Rows.{rows-length}
+use Rattle.growth.specs.Rows.{rows}
+use Rattle.growth.proofs.Rows.{rows-length}
 use Rattle.graph.proofs.edges.lay_checks.Statement.{statement}
 use Rattle.graph.proofs.edges.lay_checks.Tie as tie
 

@@ -1,25 +1,17 @@
 -- `graph::encoder::table` meets its contract. The invariant: i rows are laid, and the next one begins at `at`.
 -- Assumes nothing.
 use mathlib.Core.Path.{_≡_, sym, ap, _∙_}
-use mathlib.Core.List.{List}
-use Prim.Native.Nat.{ℕ, _+_, _-_, _*_, _<_, _≤_}
-use native.Mathlib.Nat.{mul-le-mul-right, suc-mul}
-use native.Mathlib.Numerals.{add-one}
+use Prim.Native.Nat.{ℕ, _+_, _-_, _*_, _≤_}
 use native.Mathlib.Omega.{arith}
 use denote.Ref.{now}
 use lib.ListN.{length}
 use Rattle.lists.specs.Chain.{chain, startOf}
-use Rattle.lists.specs.Entry.{nth}
 use Rattle.lists.specs.Laid.{laid}
-use Rattle.lists.specs.Values.{values}
 use Rattle.lists.proofs.Chain.{start-none, start-more, chain-start, chain-on}
 use Rattle.lists.proofs.Values.{values-length}
+use Rattle.graph.proofs.TableRows.{factor, factors, room, next}
 use Rattle.graph.proofs.encoder.table.Statement.{statement}
 use Rattle.graph.proofs.encoder.table.Tie as tie
-
--- the factors of row i
-abbrev factors : ℕ → List ℕ → List ℕ → ℕ → List ℕ
-factors k h info i = values k (λ t. nth h (i * 256 + nth info t))
 
 abbrev Inv-loop : tie.InvT-loop
 Inv-loop r k h info a₀ at₀ i₀ a at i =
@@ -27,13 +19,6 @@ Inv-loop r k h info a₀ at₀ i₀ a at i =
 
 abbrev μ-loop : tie.MeasureT-loop
 μ-loop r k h info a₀ at₀ i₀ a at i = r - i
-
--- row i ends within the table
-room : (i r k : ℕ) → i < r → r * k ≤ 16384 → i * k + k ≤ 16384
-room i r k h l = omega (arith, mul-le-mul-right k h, suc-mul i k)
-
-next : (i k : ℕ) → i * k + k ≡ (i + 1) * k
-next i k = sym (ap (λ (x : ℕ). x * k) (add-one i) ∙ suc-mul i k)
 
 loop-holds : tie.Need-loop-holds Inv-loop μ-loop
 loop-holds c =
@@ -61,7 +46,7 @@ loop-again c =
     let l = c .before .before .before .before .before .loop in
     let f = factors (s .args .k) (now (s .args .h)) (now (s .args .info)) in
     let e = start-more f (l .i) in
-    let z = values-length (λ t. nth (now (s .args .h)) (l .i * 256 + nth (now (s .args .info)) t)) (s .args .k) in (
+    let z = values-length (factor (now (s .args .h)) (now (s .args .info)) (l .i)) (s .args .k) in (
       omega arith,
       ap (λ (x : ℕ). x + s .args .k) (l .inv .1) ∙ next (l .i) (s .args .k),
       omega arith,

@@ -2,7 +2,7 @@
 -- Assumes nothing.
 use mathlib.Core.Path.{_≡_, sym, ap, _∙_}
 use mathlib.Core.List.{List}
-use Prim.Native.Nat.{ℕ, _+_, _-_, _*_, _<_, _≤_}
+use Prim.Native.Nat.{ℕ, _+_, _-_, _<_, _≤_}
 use native.Mathlib.Omega.{arith}
 use borrow.Author.Needs.{needs}
 use denote.Ref.{now}
@@ -12,15 +12,12 @@ use Rattle.lists.specs.Laid.{laidFrom}
 use Rattle.lists.specs.Values.{values}
 use Rattle.lists.proofs.Laid.{from-start, from-on}
 use Rattle.lists.proofs.Values.{values-none, values-length, values-more}
+use Rattle.graph.proofs.TableRows.{factor}
 use Rattle.graph.proofs.encoder.table_row.Statement.{statement}
 use Rattle.graph.proofs.encoder.table_row.Tie as tie
 
--- the entry of the matrix at information position t
-abbrev factor : ℕ → List ℕ → List ℕ → ℕ → ℕ
-factor i h info t = nth h (i * 256 + nth info t)
-
 abbrev Inv-loop : tie.InvT-loop
-Inv-loop i k at h info a₀ t₀ a t = (t ≤ k) × (length a ≡ 16384) × (a ≡ laidFrom at (values t (factor i h info)) a₀)
+Inv-loop i k at h info a₀ t₀ a t = (t ≤ k) × (length a ≡ 16384) × (a ≡ laidFrom at (values t (factor h info i)) a₀)
 
 abbrev μ-loop : tie.MeasureT-loop
 μ-loop i k at h info a₀ t₀ a t = k - t
@@ -32,7 +29,7 @@ loop-again : tie.Need-loop-again Inv-loop μ-loop
 loop-again c =
     let a = c .before .before .before .before .args in
     let l = c .before .before .before .loop in
-    let f = factor (a .i) (now (a .h)) (now (a .info)) in (
+    let f = factor (now (a .h)) (now (a .info)) (a .i) in (
       omega arith,
       simp length-set (l .inv .1),
       from-on (a .at) (values (l .t) f) (now (a .a)) (l .a) (a .at + l .t) (f (l .t)) (ap (λ (k : ℕ). a .at + k) (sym (values-length f (l .t)))) (omega arith) (l .inv .2)
@@ -47,7 +44,7 @@ table-row-spec =
     μ-loop
     (λ c.
     let a = c .args in
-    (omega arith, c .pre .0 .5, from-start (a .at) (now (a .a)) ∙ ap (λ (w : List ℕ). laidFrom (a .at) w (now (a .a))) (sym (values-none (factor (a .i) (now (a .h)) (now (a .info)))))))
+    (omega arith, c .pre .0 .5, from-start (a .at) (now (a .a)) ∙ ap (λ (w : List ℕ). laidFrom (a .at) w (now (a .a))) (sym (values-none (factor (now (a .h)) (now (a .info)) (a .i))))))
     (λ c. search needs)
     (λ c. search needs)
     (λ c. omega arith)
@@ -64,4 +61,4 @@ table-row-spec =
     let a = c .before .before .args in
     let l = c .before .loop in
     let e : l .t ≡ a .k = omega arith in
-    l .inv .2 ∙ ap (λ (t : ℕ). laidFrom (a .at) (values t (factor (a .i) (now (a .h)) (now (a .info)))) (now (a .a))) e))
+    l .inv .2 ∙ ap (λ (t : ℕ). laidFrom (a .at) (values t (factor (now (a .h)) (now (a .info)) (a .i))) (now (a .a))) e))

@@ -1,0 +1,10 @@
+pub mod Rows
+pub mod Marks
+pub mod Found
+pub mod PickMin
+pub mod Breadth
+pub mod Candidates
+pub mod Source
+pub mod Joined
+pub mod Order
+pub mod Grown

@@ -1,0 +1,9 @@
+pub mod Placed
+pub mod CheckSums
+pub mod Parity
+pub mod Encodings
+pub mod Linear
+pub mod Theorem
+pub mod HeldChecks
+pub mod OnCode
+pub mod LentWords

@@ -1,0 +1,142 @@
+-- `words::encode` meets its contract: the tests of the code and of the number of symbols decide; symbols, then parity, are placed.
+-- Assumes nothing.
+use mathlib.Core.Path.{_≡_, refl, sym, ap, _∙_}
+use mathlib.Core.Bool.{Bool, false, not, or-false, _||_}
+use mathlib.Core.List.{List, [], _∷_}
+use Prim.Native.Nat.{ℕ, _-_, _<_, _≤_}
+use native.Mathlib.Omega.{arith}
+use borrow.Author.Needs.{needs}
+use borrow.Author.Tests.{eqb-true, not-false}
+use denote.Ref.{now}
+use lib.Dec.{eqb}
+use lib.ListN.{length}
+use Rattle.lists.specs.Entry.{nth}
+use Rattle.calls.specs.Refusal.{refusal, misfit}
+use Rattle.calls.proofs.Refusal.{alike, refusal-hit, refusal-miss, refusal-none}
+use Rattle.graph.specs.Held.{held}
+use Rattle.graph.specs.LentCode.{MatrixWork, lentMatrix, refusals}
+use Rattle.graph.specs.Parts.{Parts, lent}
+use Rattle.graph.specs.Misencoded.{graphIn}
+use Rattle.graph.specs.Sound.{Sound}
+use borrow.Author.Tests.{lt-ltb, le-ltb}
+use lib.Dec.{ltb}
+use lib.ListN.{replicate, length-replicate}
+use Rattle.graph.proofs.Sound.{passed, sound-columns}
+use Rattle.field.specs.Field.{product}
+use Rattle.field.specs.FieldSum.{fieldSum}
+use Rattle.field.proofs.Logarithms.{exps, logs, tabled}
+use Rattle.graph.specs.declared.Answer.the-variants.{Done, Refused}
+use Rattle.words.specs.Encoding.{symbol, placed}
+use Rattle.words.specs.Encode.{tooManySymbols, encode}
+use Rattle.words.proofs.Placed.{placed-length}
+use Rattle.words.proofs.LentWords.{positions-length, positions-inside, parity-inside, table-room, encoded-is}
+use Rattle.words.proofs.OnCode.{filled-code, filled-call, filled-done}
+use Rattle.words.proofs.encode.Statement.{statement}
+use Rattle.words.proofs.encode.Tie as tie
+
+abbrev S : tie.After-refused → tie.Start
+S c = c .before .before .before .before .before .before .before .before .before .before .before .before .before .before .before .before .before
+
+abbrev parts : tie.Start → Parts
+parts s = lent (s .args .var) (s .args .coef) (s .args .row) (s .args .start) (s .args .col) (s .args .order) (s .args .parity) (s .args .info) (s .args .a)
+
+abbrev work : tie.Start → MatrixWork
+work s = lentMatrix (s .args .h) (s .args .pivots)
+
+-- whether a part of the call's own has a wrong length
+abbrev rest : tie.Start → Bool
+rest s = misfit ((length (now (s .args .word)), s .args .code .n) ∷ [])
+
+-- the number that the code gives
+asked : (c : tie.After-refused) → c .refused .result ≡ refusal (refusals (S c .args .code) (parts (S c)) (work (S c)) (rest (S c)))
+asked c = c .refused .ensures .0 ∙ ap (λ (b : Bool). refusal (refusals (S c .args .code) (parts (S c)) (work (S c)) b)) (sym (or-false (not (eqb (length (now (S c .args .word))) (S c .args .code .n)))))
+
+-- what the tests of the code leave
+code : (c : tie.After-refused) → c .refused .result ≡ 0 → Sound (S c .args .code) (parts (S c)) × (rest (S c) ≡ false)
+code c z = passed (S c .args .code) (parts (S c)) (work (S c)) (rest (S c)) (sym (asked c) ∙ z)
+
+-- the call's own test
+abbrev own : tie.Start → List (Bool × ℕ)
+own s = (tooManySymbols (s .args .code) (parts s) (now (s .args .syms)), 8) ∷ []
+
+long : (c : tie.After-refused) → c .refused .result ≡ 0 → length (now (S c .args .word)) ≡ S c .args .code .n
+long c z = alike ((length (now (S c .args .word)), S c .args .code .n) ∷ []) false (code c z .1) .0 .0
+
+returns : tie.Need-returns
+unfolding encode
+returns c =
+    let r = c .before .before .before .before .before in
+    let s = S r in
+    filled-code (s .args .code) (parts s) (work s) (rest s) (own s) Refused _ (asked r) (r .refused .ensures .1) _ _ (c .if1 .taken)
+
+returns-2 : tie.Need-returns-2
+unfolding encode
+returns-2 c =
+    let r = c .before .before .before .before .before .before .before in
+    let s = S r in
+    let z = c .before .before .if1 .left in
+    let k = positions-length (s .args .code) (parts s) (code r z .0) in
+    filled-call (s .args .code) (parts s) (work s) (rest s) (own s) Refused _ (asked r) (r .refused .ensures .1) _ _ z
+    8 (refusal-hit {k = 8} [] refl (lt-ltb _ (length (now (s .args .syms))) (omega (arith, k)))) (λ e. omega arith) refl
+
+place-symbols-requires : tie.Need-place-symbols-requires
+place-symbols-requires c κs =
+    let r = c .before .before .before .before .before .before .before .before .before .before .before .before in
+    let s = S r in
+    let z = c .before .before .before .before .before .before .before .if1 .left in
+    let w = code r z .0 in
+    let l = ap length (c .before .before .before .clear-u8 .ensures) ∙ length-replicate (length (now (s .args .word))) 0 in
+    (omega (arith, w .fits .n-small, w .fits .parts .info), λ t h. omega (arith, l, long r z, positions-inside (s .args .code) (parts s) w t h))
+
+place-parity-requires : tie.Need-place-parity-requires
+unfolding exps logs
+place-parity-requires c κs =
+    let r = c .before .before .before .before .before .before .before .before .before .before .before .before .before .before .before .before .before .before in
+    let s = S r in
+    let z = c .before .before .before .before .before .before .before .before .before .before .before .before .before .if1 .left in
+    let w = code r z .0 in
+    let l = ap length (c .before .before .before .before .before .before .before .before .before .clear-u8 .ensures) ∙ length-replicate (length (now (s .args .word))) 0 in
+    let k = ap length (c .before .before .before .before .before .place-symbols .ensures) ∙ placed-length _ _ _ _ in
+    let b = sound-columns (s .args .code) (parts s) w in (
+      tabled,
+      (
+        (omega (arith, b, w .fits .n-small, w .fits .parts .parity), λ i h. omega (arith, k, l, long r z, parity-inside (s .args .code) (parts s) w i h)),
+        (omega (arith, b, w .fits .n-small), omega (arith, w .fits .n-small), w .fits .parts .a, table-room (s .args .code) (parts s) w, omega (arith, c .before .before .before .before .before .before .before .before .before .before .before .if2 .left)),
+      ),
+    )
+
+returns-3 : tie.Need-returns-3
+unfolding encode
+returns-3 c =
+    let r = c .before .before .before .before .before .before .before .before .before .before .before .before .before .before .before .before .before .before .before .before .before in
+    let s = S r in
+    let z = c .before .before .before .before .before .before .before .before .before .before .before .before .before .before .before .before .if1 .left in
+    let w = code r z .0 in
+    let k = positions-length (s .args .code) (parts s) w in
+    let syms = now (s .args .syms) in
+    filled-done (s .args .code) (parts s) (work s) (rest s) (own s) Refused _ (asked r) (r .refused .ensures .1) _ _ z
+    (refusal-miss 8 [] refl (le-ltb _ (length syms) (omega (arith, k, c .before .before .before .before .before .before .before .before .before .before .before .before .before .before .if2 .left))) refusal-none)
+    refl
+    (c .before .before .place-parity .ensures
+    ∙ ap (placed _ _ _) (c .before .before .before .before .before .before .before .before .place-symbols .ensures ∙ ap (placed _ _ _) (c .before .before .before .before .before .before .before .before .before .before .before .before .clear-u8 .ensures ∙ ap (λ (n : ℕ). replicate n 0) (long r z)))
+    ∙ encoded-is (s .args .code) (parts s) w syms (omega (arith, c .before .before .before .before .before .before .before .before .before .before .before .before .before .before .if2 .left)))
+
+pub encode-spec : {M : Type 1} → statement M
+encode-spec =
+    tie.close
+    (tie.spec
+    (λ c κs. search needs)
+    (λ c. search needs)
+    (λ c. search needs)
+    returns
+    (λ c. let r = c .before .before .before .before .before .before in omega (arith, sound-columns (S r .args .code) (parts (S r)) (code r (c .before .if1 .left) .0)))
+    (λ c. search needs)
+    (λ c. search needs)
+    returns-2
+    (λ c κs. search needs)
+    place-symbols-requires
+    place-parity-requires
+    (λ c. search needs)
+    (λ c. search needs)
+    (λ c. search needs)
+    returns-3)

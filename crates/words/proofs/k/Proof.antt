@@ -1,0 +1,72 @@
+-- `words::k` meets its contract: the test of the code decides, and elimination leaves as many positions.
+-- Assumes nothing.
+use mathlib.Core.Path.{_≡_, sym, ap, _∙_}
+use mathlib.Core.Bool.{Bool, false}
+use mathlib.Core.List.{[]}
+use Prim.Native.Nat.{ℕ}
+use native.Mathlib.Omega.{arith}
+use borrow.Author.Needs.{needs}
+use Rattle.calls.proofs.Refusal.{refusal-none}
+use Rattle.graph.specs.LentCode.{MatrixWork, lentMatrix, refusals}
+use Rattle.calls.specs.Refusal.{refusal}
+use Rattle.graph.specs.Parts.{Parts, lent}
+use Rattle.graph.specs.Sound.{Sound}
+use Rattle.graph.proofs.Sound.{passed, sound-columns}
+use Rattle.words.specs.declared.Number.{Number}
+use Rattle.words.specs.declared.Number.the-variants.{Found, Refused}
+use Rattle.words.specs.K.{k}
+use Rattle.words.specs.OnCode.{Told}
+use Rattle.words.proofs.LentWords.{positions-length}
+use Rattle.words.proofs.OnCode.{told-code, told-done}
+use Rattle.words.proofs.k.Statement.{statement}
+use Rattle.words.proofs.k.Tie as tie
+
+abbrev S : tie.After-refused → tie.Start
+S c = c .before .before .before .before .before .before .before .before .before .before .before .before .before .before
+
+abbrev parts : tie.Start → Parts
+parts s = lent (s .args .var) (s .args .coef) (s .args .row) (s .args .start) (s .args .col) (s .args .order) (s .args .parity) (s .args .info) (s .args .a)
+
+abbrev work : tie.Start → MatrixWork
+work s = lentMatrix (s .args .h) (s .args .pivots)
+
+-- whether a part of the call's own has a wrong length
+abbrev rest : tie.Start → Bool
+rest s = false
+
+-- the number that the code gives
+asked : (c : tie.After-refused) → c .refused .result ≡ refusal (refusals (S c .args .code) (parts (S c)) (work (S c)) (rest (S c)))
+asked c = c .refused .ensures .0
+
+-- what the tests of the code leave
+code : (c : tie.After-refused) → c .refused .result ≡ 0 → Sound (S c .args .code) (parts (S c)) × (rest (S c) ≡ false)
+code c z = passed (S c .args .code) (parts (S c)) (work (S c)) (rest (S c)) (sym (asked c) ∙ z)
+
+returns : tie.Need-returns
+unfolding k
+returns c =
+    let r = c .before .before .before .before .before in
+    let s = S r in
+    told-code (s .args .code) (parts s) (work s) (rest s) [] Refused _ (asked r) (r .refused .ensures .1) (c .if1 .taken)
+
+returns-2 : tie.Need-returns-2
+unfolding k
+returns-2 c =
+    let r = c .before .before .before .before .before .before in
+    let s = S r in
+    let w = code r (c .before .if1 .left) .0 in
+    told-done (s .args .code) (parts s) (work s) (rest s) [] Refused _ (asked r) (r .refused .ensures .1) (c .before .if1 .left) refusal-none
+    (ap Found (sym (positions-length (s .args .code) (parts s) w)))
+
+pub k-spec : {M : Type 1} → statement M
+k-spec =
+    tie.close
+    (tie.spec
+    (λ c κs. search needs)
+    (λ c. search needs)
+    (λ c. search needs)
+    returns
+    (λ c. let r = c .before .before .before .before .before .before in omega (arith, sound-columns (S r .args .code) (parts (S r)) (code r (c .before .if1 .left) .0)))
+    (λ c. search needs)
+    (λ c. search needs)
+    returns-2)

@@ -1,0 +1,16 @@
+-- The call k: how many information positions a code has. nb.rs, `k`.
+-- Assumes nothing.
+use Prim.Native.Nat.{ℕ}
+use mathlib.Core.Bool.{false}
+use lib.ListN.{length}
+use Rattle.graph.specs.declared.Code.{Code}
+use Rattle.graph.specs.Parts.{Parts}
+use Rattle.graph.specs.Misencoded.{graphIn}
+use Rattle.graph.specs.LentCode.{MatrixWork, refusals}
+use Rattle.words.specs.declared.Number.{Number}
+use Rattle.words.specs.declared.Number.the-variants.{Found, Refused}
+use Rattle.words.specs.Encoding.{informationOf}
+use Rattle.words.specs.OnCode.{Told, told}
+
+unfoldable pub k : Code → Parts → MatrixWork → Told Number
+k c p work = told (refusals c p work false) Refused (Found (length (informationOf (graphIn c p) (p .order)))) work

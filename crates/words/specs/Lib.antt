@@ -1,0 +1,12 @@
+pub mod Word
+pub mod Encoding
+pub mod Linear
+pub mod OnCode
+pub mod BadWord
+pub mod Encode
+pub mod InfoOf
+pub mod ChecksOk
+pub mod Degree
+pub mod K
+pub mod N
+pub mod InfoPositions
