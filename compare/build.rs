@@ -55,6 +55,12 @@ const REPLACEMENTS: &[Replacement] = &[
         times: 1,
     },
     Replacement {
+        purpose: "open a code's sizes",
+        old: "pub struct NbCode {\n    n: usize,\n    m: usize,",
+        new: "pub struct NbCode {\n    pub n: usize,\n    pub m: usize,",
+        times: 1,
+    },
+    Replacement {
         purpose: "open a code's edges",
         old: "\n    edges: Vec<(u16, u8)>,",
         new: "\n    pub edges: Vec<(u16, u8)>,",
@@ -88,6 +94,12 @@ const REPLACEMENTS: &[Replacement] = &[
         purpose: "open a code's table",
         old: "\n    a: Vec<Vec<u8>>,",
         new: "\n    pub a: Vec<Vec<u8>>,",
+        times: 1,
+    },
+    Replacement {
+        purpose: "open the elimination",
+        old: "    fn build_encoder(&mut self, order: &[usize]) {",
+        new: "    pub fn build_encoder(&mut self, order: &[usize]) {",
         times: 1,
     },
 ];

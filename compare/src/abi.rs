@@ -45,6 +45,60 @@ unsafe extern "C" {
     ) -> u8;
 }
 
+/// Declares the calls on a lent code. Before a call's own arguments stand those of the code, after
+/// them the work parts.
+macro_rules! calls_on_code {
+    ($(fn $name:ident($($own:ident: $kind:ty),*);)*) => {
+        unsafe extern "C" {
+            $(fn $name(
+                n: usize,
+                m: usize,
+                edges: usize,
+                rank: usize,
+                var: *const u16,
+                var_len: usize,
+                coef: *const u8,
+                coef_len: usize,
+                row: *const u16,
+                row_len: usize,
+                start: *const u16,
+                start_len: usize,
+                col: *const u16,
+                col_len: usize,
+                order: *const u16,
+                order_len: usize,
+                parity: *const u16,
+                parity_len: usize,
+                info: *const u16,
+                info_len: usize,
+                a: *const u8,
+                a_len: usize,
+                $($own: $kind,)*
+                h: *mut u8,
+                h_len: usize,
+                pivots: *mut u16,
+                pivots_len: usize,
+            ) -> u8;)*
+        }
+    };
+}
+
+calls_on_code! {
+    fn hazgunek_encode(syms: *const u8, syms_len: usize, word: *mut u8, word_len: usize);
+    fn hazgunek_info_of(
+        word: *const u8,
+        word_len: usize,
+        count: *mut usize,
+        syms: *mut u8,
+        syms_len: usize
+    );
+    fn hazgunek_checks_ok(word: *const u8, word_len: usize, ok: *mut u8);
+    fn hazgunek_degree(v: usize, degree: *mut usize);
+    fn hazgunek_k(k: *mut usize);
+    fn hazgunek_n(symbols: *mut usize);
+    fn hazgunek_info_positions(count: *mut usize, positions: *mut u16, positions_len: usize);
+}
+
 // What the library asks of every pointer (not null, as many elements as said, no overlap) is true
 // of Rust's references, so each call below is safe.
 
@@ -118,4 +172,100 @@ pub fn new(n: usize, m: usize, seed: u64, degrees: &[usize], parts: NewParts) ->
             deg.len(),
         )
     }
+}
+
+/// A lent code and the work parts of a call on it. The parts stand by the width of their entries,
+/// each kind in the order of the call.
+pub struct OnCode<'a> {
+    pub n: usize,
+    pub m: usize,
+    pub edges: usize,
+    pub rank: usize,
+    pub wide: [&'a [u16]; 7],
+    pub narrow: [&'a [u8]; 2],
+    pub h: &'a mut [u8],
+    pub pivots: &'a mut [u16],
+}
+
+/// Makes a call on a lent code, with its own arguments.
+macro_rules! call_on_code {
+    ($on:expr, $name:ident($($own:expr),*)) => {{
+        let on: OnCode = $on;
+        let [var, row, start, col, order, parity, info] = on.wide;
+        let [coef, a] = on.narrow;
+        unsafe {
+            $name(
+                on.n,
+                on.m,
+                on.edges,
+                on.rank,
+                var.as_ptr(),
+                var.len(),
+                coef.as_ptr(),
+                coef.len(),
+                row.as_ptr(),
+                row.len(),
+                start.as_ptr(),
+                start.len(),
+                col.as_ptr(),
+                col.len(),
+                order.as_ptr(),
+                order.len(),
+                parity.as_ptr(),
+                parity.len(),
+                info.as_ptr(),
+                info.len(),
+                a.as_ptr(),
+                a.len(),
+                $($own,)*
+                on.h.as_mut_ptr(),
+                on.h.len(),
+                on.pivots.as_mut_ptr(),
+                on.pivots.len(),
+            )
+        }
+    }};
+}
+
+pub fn encode(on: OnCode, syms: &[u8], word: &mut [u8]) -> u8 {
+    call_on_code!(
+        on,
+        hazgunek_encode(syms.as_ptr(), syms.len(), word.as_mut_ptr(), word.len())
+    )
+}
+
+pub fn info_of(on: OnCode, word: &[u8], count: &mut usize, syms: &mut [u8]) -> u8 {
+    call_on_code!(
+        on,
+        hazgunek_info_of(
+            word.as_ptr(),
+            word.len(),
+            count,
+            syms.as_mut_ptr(),
+            syms.len()
+        )
+    )
+}
+
+pub fn checks_ok(on: OnCode, word: &[u8], ok: &mut u8) -> u8 {
+    call_on_code!(on, hazgunek_checks_ok(word.as_ptr(), word.len(), ok))
+}
+
+pub fn degree(on: OnCode, v: usize, degree: &mut usize) -> u8 {
+    call_on_code!(on, hazgunek_degree(v, degree))
+}
+
+pub fn k(on: OnCode, k: &mut usize) -> u8 {
+    call_on_code!(on, hazgunek_k(k))
+}
+
+pub fn n(on: OnCode, symbols: &mut usize) -> u8 {
+    call_on_code!(on, hazgunek_n(symbols))
+}
+
+pub fn info_positions(on: OnCode, count: &mut usize, positions: &mut [u16]) -> u8 {
+    call_on_code!(
+        on,
+        hazgunek_info_positions(count, positions.as_mut_ptr(), positions.len())
+    )
 }

@@ -31,10 +31,7 @@ impl Asked {
     }
 
     /// The first `heavy` of `n` variables have one degree, the rest another.
-    pub fn of_row(
-        (n, m, heavy, degree, light): (usize, usize, usize, usize, usize),
-        seed: u64,
-    ) -> Self {
+    pub fn of_row((n, m, heavy, degree, light): Row, seed: u64) -> Self {
         let degrees = (0..n)
             .map(|v| if v < heavy { degree } else { light })
             .collect();
@@ -108,8 +105,11 @@ impl fmt::Display for Asked {
 /// The seed of the original's codes.
 pub const SEED: u64 = 0x4E42_4C44_5043;
 
-/// The degree rows of the four rates: n, m, heavy columns, their degree, the others' degree.
-pub const RATES: [(usize, usize, usize, usize, usize); 4] = [
+/// A code by its degrees: n, m, heavy columns, their degree, the others' degree.
+pub type Row = (usize, usize, usize, usize, usize);
+
+/// The degree rows of the four rates.
+pub const RATES: [Row; 4] = [
     (205, 153, 20, 6, 2),
     (156, 104, 16, 5, 2),
     (104, 52, 12, 4, 2),
@@ -154,7 +154,7 @@ fn tuples(n: usize, m: usize) -> Vec<Vec<usize>> {
 }
 
 /// Codes at the ends of what is allowed, as rows, and some sizes between.
-const EDGES: &[(usize, usize, usize, usize, usize)] = &[
+const EDGES: &[Row] = &[
     // No variables, no checks, no edges.
     (0, 0, 0, 0, 0),
     (0, 1, 0, 0, 0),
@@ -240,27 +240,16 @@ pub fn random() -> impl Iterator<Item = Asked> {
 }
 
 fn random_code(random: &mut Random) -> Asked {
-    let (n, m) = (random_size(random), random_size(random));
+    let (n, m) = (random.size(), random.size());
     let mut degrees = random_degrees(random, n, m);
     cut(&mut degrees);
     if random.below(8) == 0 {
         fill_up(&mut degrees, m);
     }
     if random.below(2) == 0 {
-        shuffle(random, &mut degrees);
+        random.shuffle(&mut degrees);
     }
     Asked::new(m, degrees, random.next())
-}
-
-/// Small ones, ones at an end, and any.
-fn random_size(random: &mut Random) -> usize {
-    match random.below(8) {
-        0 => random.below(5),
-        1 | 2 => random.below(17),
-        3 | 4 => random.below(65),
-        5 => [0, 1, 2, 31, 32, 33, 127, 128, 129, 254, 255, 256][random.below(12)],
-        _ => random.below(257),
-    }
 }
 
 /// Degrees up to m, whatever their sum.
@@ -299,12 +288,6 @@ fn fill_up(degrees: &mut [usize], m: usize) {
         let more = (m - *degree).min(left);
         *degree += more;
         left -= more;
-    }
-}
-
-fn shuffle(random: &mut Random, degrees: &mut [usize]) {
-    for i in (1..degrees.len()).rev() {
-        degrees.swap(i, random.below(i + 1));
     }
 }
 

@@ -2,6 +2,7 @@
 //! original's `Gf::mul`, `Gf::inv` and `mix`.
 
 use crate::abi;
+use crate::filling::BEFORE;
 use crate::guarded::Guarded;
 use crate::oracle::{GF, mix};
 use crate::random::Random;
@@ -9,12 +10,6 @@ use crate::report::{Case, HeldTo, Tally};
 use crate::speed::time_both;
 use std::fmt::Write;
 use std::hint::black_box;
-
-/// What stands in an output part beforehand, and in the entries around every part. Each call is
-/// tried with both, so that an entry that is written where it must not be, or left where it must be
-/// written, shows with one of them. Both are above 31, so neither is an element.
-const BEFORE: [u8; 2] = [170, 85];
-const BEFORE_DRAWS: [u64; 2] = [0xAAAA_AAAA_AAAA_AAAA, 0x5555_5555_5555_5555];
 
 /// Seeds that are no random ones: the smallest, the published vectors' one, the greatest, the one
 /// of the original's codes, and the one whose first state is 0.
@@ -58,7 +53,7 @@ fn compare_mul() -> u64 {
     let mut tally = Tally::new("mul");
     for a in 0..=255 {
         for b in 0..=255 {
-            for before in BEFORE {
+            for before in BEFORE.map(|filling| filling.narrow) {
                 let (held_to, number, product) = match mul_number(a, b) {
                     0 => (HeldTo::Rust, 0, GF.mul(a, b)),
                     number => (HeldTo::Document, number, before),
@@ -66,8 +61,7 @@ fn compare_mul() -> u64 {
                 let mut part = Guarded::new(&[before], before);
                 let mut case = Case::held_to(held_to);
                 case.value("number", abi::mul(a, b, part.lend_one()), number);
-                case.value("product", part.part()[0], product);
-                part.compare_guards(&mut case, "product");
+                part.compare_one(&mut case, "product", product);
                 tally.count(case, || {
                     format!("mul({a}, {b}) with {before} in the product")
                 });
@@ -81,7 +75,7 @@ fn compare_mul() -> u64 {
 fn compare_inv() -> u64 {
     let mut tally = Tally::new("inv");
     for a in 0..=255 {
-        for before in BEFORE {
+        for before in BEFORE.map(|filling| filling.narrow) {
             let (held_to, number, inverse) = match inv_number(a) {
                 0 => (HeldTo::Rust, 0, GF.inv(a)),
                 number => (HeldTo::Document, number, before),
@@ -89,8 +83,7 @@ fn compare_inv() -> u64 {
             let mut part = Guarded::new(&[before], before);
             let mut case = Case::held_to(held_to);
             case.value("number", abi::inv(a, part.lend_one()), number);
-            case.value("inverse", part.part()[0], inverse);
-            part.compare_guards(&mut case, "inverse");
+            part.compare_one(&mut case, "inverse", inverse);
             tally.count(case, || format!("inv({a}) with {before} in the inverse"));
         }
     }
@@ -103,13 +96,13 @@ fn compare_draws() -> u64 {
     let cuts: Vec<usize> = (0..CUTS).collect();
     let mut tally = Tally::new("draws");
     for seed in seeds() {
-        for before in BEFORE_DRAWS {
+        for before in BEFORE.map(|filling| filling.number as u64) {
             compare_run(&mut tally, seed, &[RUN], before);
             compare_run(&mut tally, seed, &cuts, before);
         }
     }
     for seed in SEEDS {
-        for before in BEFORE_DRAWS {
+        for before in BEFORE.map(|filling| filling.number as u64) {
             for length in LONG_RUNS {
                 compare_run(&mut tally, seed, &[length], before);
             }
@@ -141,10 +134,8 @@ fn compare_run(tally: &mut Tally, seed: u64, lengths: &[usize], before: u64) {
 
         let mut case = Case::held_to(HeldTo::Rust);
         case.value("number", number, 0);
-        case.value("state", our_state, state);
-        case.part("draws", draws.part(), &expected);
-        lent_state.compare_guards(&mut case, "state");
-        draws.compare_guards(&mut case, "draws");
+        lent_state.compare_one(&mut case, "state", state);
+        draws.compare(&mut case, "draws", &expected);
         tally.count(case, || {
             format!(
                 "{length} draws from state {from}, with {before} in each entry, in a run of seed {seed}"

@@ -3,29 +3,16 @@
 
 use crate::abi;
 use crate::asked::{self, Asked, SEED};
+use crate::filling::{BEFORE, Filling};
 use crate::guarded::Guarded;
-use crate::lent::{Filling, Left, Lent, NARROW, WIDE};
+use crate::lent::{Left, Lent, NARROW, WIDE};
+use crate::list::digest;
 use crate::oracle::{NbCode, even_degrees};
 use crate::random::Random;
 use crate::report::{Case, HeldTo, Tally};
 use crate::speed::time_both;
 use std::fmt::Write;
 use std::hint::black_box;
-
-/// What stands in all parts beforehand, work parts too, and in the entries around them. Each call
-/// is tried with both.
-const BEFORE: [Filling; 2] = [
-    Filling {
-        number: 0xAAAA_AAAA_AAAA_AAAA,
-        wide: 0xAAAA,
-        narrow: 0xAA,
-    },
-    Filling {
-        number: 0x5555_5555_5555_5555,
-        wide: 0x5555,
-        narrow: 0x55,
-    },
-];
 
 /// All comparisons of this layer; gives the differences.
 pub fn compare() -> u64 {
@@ -91,8 +78,7 @@ fn compare_spread(tally: &mut Tally, n: usize, e: usize, length: usize) {
         let mut degrees = Guarded::new(&vec![before; length], before);
         let mut case = Case::held_to(held_to);
         case.value("number", abi::even_degrees(n, e, degrees.lend()), number);
-        case.part("degrees", degrees.part(), &expected);
-        degrees.compare_guards(&mut case, "degrees");
+        degrees.compare(&mut case, "degrees", &expected);
         tally.count(case, || {
             format!("even_degrees({n}, {e}) with {before} in each of {length} degrees")
         });
@@ -140,11 +126,11 @@ fn compare_code(tally: &mut Tally, asked: &Asked) {
     }
 }
 
-/// A row of degrees with its seed: n, m, heavy columns, their degree, the others' degree.
-type Row = (usize, usize, usize, usize, usize, u64);
+/// A row of degrees with its seed.
+type SeededRow = (usize, usize, usize, usize, usize, u64);
 
 /// The codes of the fixed list beside those of the four rates, and then calls that are turned down.
-const LISTED_CODES: &[Row] = &[
+const LISTED_CODES: &[SeededRow] = &[
     (0, 0, 0, 0, 0, 0),
     (0, 3, 0, 0, 0, 1),
     (3, 0, 0, 0, 0, 2),
@@ -262,7 +248,7 @@ fn list_spread(text: &mut String, n: usize, e: usize) {
     writeln!(text, "even_degrees {n} {e} {number} {digest}").unwrap();
 }
 
-fn list_code(text: &mut String, row: Row) {
+fn list_code(text: &mut String, row: SeededRow) {
     let (n, m, heavy, degree, light, seed) = row;
     let asked = Asked::of_row((n, m, heavy, degree, light), seed);
     let number = asked.number();
@@ -291,14 +277,6 @@ fn digests(left: &Left) -> [u64; 9] {
     let [var, row, start, col, order, parity, info, _, _] = wide;
     let [coef, a, _, _] = narrow;
     [var, coef, row, start, col, order, parity, info, a]
-}
-
-/// A number below 65,521, a prime number of which 17 is a primitive root: no change of one entry
-/// and no exchange of two goes unseen.
-fn digest(entries: impl Iterator<Item = u64>) -> u64 {
-    entries.fold(0, |digest, entry| {
-        (17 * digest + entry % 65_521 + 1) % 65_521
-    })
 }
 
 /// The Rust's build, behind a function that is not inlined, as the archive's is not.

@@ -45,8 +45,20 @@ impl<T: Copy + PartialEq + Display> Guarded<T> {
         self.split().1
     }
 
+    /// Compares the part with what a call must leave in it, and what stands around it.
+    pub fn compare(&self, case: &mut Case, name: &str, left: &[T]) {
+        case.part(name, self.part(), left);
+        self.compare_guards(case, name);
+    }
+
+    /// The same of a part that has only one entry.
+    pub fn compare_one(&self, case: &mut Case, name: &str, left: T) {
+        case.value(name, self.part()[0], left);
+        self.compare_guards(case, name);
+    }
+
     /// Compares the entries around the part with what stood there.
-    pub fn compare_guards(&self, case: &mut Case, name: &str) {
+    fn compare_guards(&self, case: &mut Case, name: &str) {
         let (before, _, past) = self.split();
         if let Some(i) = before.iter().rposition(|entry| *entry != self.guard) {
             let place = format!("entry {} before the {name}", GUARDS - i);

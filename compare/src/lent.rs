@@ -2,6 +2,10 @@
 
 use crate::abi::{self, NewParts};
 use crate::asked::Asked;
+use crate::code::{
+    A, COEF, COL, Code, INFO, LENGTHS, NAMES, ORDER, PARITY, ROW, START, VAR, narrowed,
+};
+use crate::filling::Filling;
 use crate::guarded::Guarded;
 use crate::oracle::NbCode;
 use crate::report::Case;
@@ -14,21 +18,19 @@ pub struct Shape {
     is_work: bool,
 }
 
-const fn code(name: &'static str, length: usize) -> Shape {
-    let is_work = false;
+const fn code(part: usize) -> Shape {
     Shape {
-        name,
-        length,
-        is_work,
+        name: NAMES[part],
+        length: LENGTHS[part],
+        is_work: false,
     }
 }
 
 const fn work(name: &'static str, length: usize) -> Shape {
-    let is_work = true;
     Shape {
         name,
         length,
-        is_work,
+        is_work: true,
     }
 }
 
@@ -38,27 +40,20 @@ pub const NARROW: usize = 4;
 
 /// All of them but the degrees: the wide ones, and then the narrow ones.
 pub const SHAPES: [Shape; WIDE + NARROW] = [
-    code("var", 512),
-    code("row", 257),
-    code("start", 257),
-    code("col", 512),
-    code("order", 256),
-    code("parity", 256),
-    code("info", 256),
+    code(VAR),
+    code(ROW),
+    code(START),
+    code(COL),
+    code(ORDER),
+    code(PARITY),
+    code(INFO),
     work("load", 256),
     work("deg", 256),
-    code("coef", 512),
-    code("a", 16_384),
+    code(COEF),
+    code(A),
     work("chk", 65_536),
     work("own", 65_536),
 ];
-
-/// What stands in each entry of a part before a call, by the width of its entries.
-pub struct Filling {
-    pub number: usize,
-    pub wide: u16,
-    pub narrow: u8,
-}
 
 /// The parts as they are lent to one call.
 pub struct Lent {
@@ -96,31 +91,16 @@ impl Lent {
 
     /// Compares every part, and what stands around it, with what the call must leave.
     pub fn compare(&self, case: &mut Case, asked: &Asked, left: &Left) {
-        compare_number(case, "edges", &self.edges, left.edges);
-        compare_number(case, "rank", &self.rank, left.rank);
-        compare_part(case, "degrees", &self.degrees, &asked.degrees);
+        self.edges.compare_one(case, "edges", left.edges);
+        self.rank.compare_one(case, "rank", left.rank);
+        self.degrees.compare(case, "degrees", &asked.degrees);
         for (i, part) in self.wide.iter().enumerate() {
-            compare_part(case, SHAPES[i].name, part, &left.wide[i]);
+            part.compare(case, SHAPES[i].name, &left.wide[i]);
         }
         for (i, part) in self.narrow.iter().enumerate() {
-            compare_part(case, SHAPES[WIDE + i].name, part, &left.narrow[i]);
+            part.compare(case, SHAPES[WIDE + i].name, &left.narrow[i]);
         }
     }
-}
-
-fn compare_number(case: &mut Case, name: &str, part: &Guarded<usize>, left: usize) {
-    case.value(name, part.part()[0], left);
-    part.compare_guards(case, name);
-}
-
-fn compare_part<T: Copy + PartialEq + std::fmt::Display>(
-    case: &mut Case,
-    name: &str,
-    part: &Guarded<T>,
-    left: &[T],
-) {
-    case.part(name, part.part(), left);
-    part.compare_guards(case, name);
 }
 
 /// What a call leaves in its parts.
@@ -146,58 +126,38 @@ impl Left {
         }
     }
 
-    /// After a call that is not turned down: the original's code, in all parts but the work parts,
-    /// and 0 in every entry that it does not fill.
+    /// After a call that is not turned down: the original's code, and 0 in the work parts.
     pub fn built(asked: &Asked) -> Self {
         let built = NbCode::new(asked.n, asked.m, &asked.degrees, asked.seed);
-        let var = built.edges.iter().map(|edge| edge.0).collect();
-        let coef = built.edges.iter().map(|edge| edge.1).collect();
-        let col = built.col.concat();
-        // The original keeps no column order: `new` eliminates from the last column back.
-        let order: Vec<usize> = (0..asked.n).rev().collect();
+        let code = Code::of_new(&built);
+        let [var, coef, row, start, col, order, parity, info, a] = code.parts;
         let mut left = Self {
-            edges: built.edges.len(),
-            rank: built.parity.len(),
+            edges: code.edges,
+            rank: code.rank,
             wide: [
                 var,
-                entries(&built.row),
-                entries(&starts(&built.col)),
-                entries(&col),
-                entries(&order),
-                entries(&built.parity),
-                entries(&built.info),
+                row,
+                start,
+                col,
+                order,
+                parity,
+                info,
                 Vec::new(),
                 Vec::new(),
             ],
-            narrow: [coef, built.a.concat(), Vec::new(), Vec::new()],
+            narrow: [narrowed(&coef), narrowed(&a), Vec::new(), Vec::new()],
         };
         left.pad();
         left
     }
 
+    /// Fills the parts that the code does not, the work parts, with 0.
     fn pad(&mut self) {
         for (part, shape) in self.wide.iter_mut().zip(&SHAPES) {
-            assert!(part.len() <= shape.length, "{} is too long", shape.name);
             part.resize(shape.length, 0);
         }
         for (part, shape) in self.narrow.iter_mut().zip(&SHAPES[WIDE..]) {
-            assert!(part.len() <= shape.length, "{} is too long", shape.name);
             part.resize(shape.length, 0);
         }
     }
-}
-
-/// The original's numbers as entries of 16 bits; they fit, since none is above 512.
-fn entries(numbers: &[usize]) -> Vec<u16> {
-    let fit = |&number| u16::try_from(number).expect("a number of a code is at most 512");
-    numbers.iter().map(fit).collect()
-}
-
-/// Where each list starts among all of them, and where the last one ends.
-fn starts(lists: &[Vec<usize>]) -> Vec<usize> {
-    let mut starts = vec![0];
-    for list in lists {
-        starts.push(starts[starts.len() - 1] + list.len());
-    }
-    starts
 }

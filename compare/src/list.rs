@@ -6,6 +6,7 @@
 use crate::field;
 use crate::graph;
 use crate::report::{Case, HeldTo, Tally};
+use crate::words_list;
 use std::fs;
 
 struct List {
@@ -21,6 +22,10 @@ const LISTS: &[List] = &[
     List {
         layer: "graph",
         text: graph::list,
+    },
+    List {
+        layer: "words",
+        text: words_list::list,
     },
 ];
 
@@ -67,4 +72,12 @@ pub fn compare() -> u64 {
 /// Splits at line feeds alone, so that texts with the same lines are the same bytes.
 fn lines(text: &str) -> Vec<&str> {
     text.split('\n').collect()
+}
+
+/// A number below 65,521, a prime number of which 17 is a primitive root: no change of one entry
+/// and no exchange of two goes unseen.
+pub fn digest(entries: impl Iterator<Item = u64>) -> u64 {
+    entries.fold(0, |digest, entry| {
+        (17 * digest + entry % 65_521 + 1) % 65_521
+    })
 }

@@ -58,7 +58,65 @@ const LISTED: &[(&str, Outcome, Call)] = &[
     ("new(n 1, m 0, no degrees)", Outcome::Panics, || {
         NbCode::new(1, 0, &[], 0).edges.len()
     }),
+    ("info_of(32) of n 1, m 0", Outcome::Answers(32), || {
+        no_checks().info_of(&[32])[0].into()
+    }),
+    ("checks_ok(32) of n 1, m 0", Outcome::Answers(1), || {
+        no_checks().checks_ok(&[32]).into()
+    }),
+    ("checks_ok(32) of n 1, m 1", Outcome::Panics, || {
+        one_edge().checks_ok(&[32]).into()
+    }),
+    ("checks_ok(32, 1) of n 2, m 2", Outcome::Answers(0), || {
+        two_edges().checks_ok(&[32, 1]).into()
+    }),
+    ("checks_ok(1, 32) of n 2, m 2", Outcome::Panics, || {
+        two_edges().checks_ok(&[1, 32]).into()
+    }),
+    ("encode(0) of n 0, m 0", Outcome::Panics, || {
+        nothing().encode(&[0]).len()
+    }),
+    ("degree(0) of n 0, m 0", Outcome::Panics, || {
+        nothing().degree(0)
+    }),
+    ("info_of(0) of n 0, m 0", Outcome::Answers(0), || {
+        nothing().info_of(&[0]).len()
+    }),
+    ("info_of() of n 1, m 0", Outcome::Panics, || {
+        no_checks().info_of(&[]).len()
+    }),
+    ("info_of() of n 1, m 1", Outcome::Answers(0), || {
+        one_edge().info_of(&[]).len()
+    }),
+    ("checks_ok(0) of n 0, m 0", Outcome::Answers(1), || {
+        nothing().checks_ok(&[0]).into()
+    }),
+    ("checks_ok() of n 1, m 0", Outcome::Answers(1), || {
+        no_checks().checks_ok(&[]).into()
+    }),
+    ("checks_ok() of n 1, m 1", Outcome::Panics, || {
+        one_edge().checks_ok(&[]).into()
+    }),
 ];
+
+fn nothing() -> NbCode {
+    NbCode::new(0, 0, &[], 0)
+}
+
+/// One variable, no check.
+fn no_checks() -> NbCode {
+    NbCode::new(1, 0, &[0], 0)
+}
+
+/// One variable, in one check.
+fn one_edge() -> NbCode {
+    NbCode::new(1, 1, &[1], 0)
+}
+
+/// Two variables, each in a check of its own, the second in the first check.
+fn two_edges() -> NbCode {
+    NbCode::new(2, 2, &[1, 1], 0)
+}
 
 pub fn compare() -> u64 {
     let mut tally = Tally::new("listed differences");

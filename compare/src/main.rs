@@ -3,16 +3,27 @@
 
 mod abi;
 mod asked;
+mod calls;
+mod code;
+mod codes;
+mod damage;
 mod field;
+mod filling;
 mod graph;
 mod guarded;
+mod judge;
 mod lent;
+mod lent_code;
 mod list;
 mod listed;
+mod on_code;
 mod oracle;
 mod random;
+mod refused;
 mod report;
 mod speed;
+mod words;
+mod words_list;
 
 use std::process::ExitCode;
 
@@ -43,9 +54,14 @@ fn print_list(layer: &str) -> ExitCode {
 
 /// All comparisons, lowest layer first, and then the speeds.
 fn compare() -> ExitCode {
-    let differences = field::compare() + graph::compare() + listed::compare() + list::compare();
+    let differences = field::compare()
+        + graph::compare()
+        + words::compare()
+        + listed::compare()
+        + list::compare();
     field::measure();
     graph::measure();
+    words::measure();
     if differences == 0 {
         println!("no differences");
         ExitCode::SUCCESS

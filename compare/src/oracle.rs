@@ -10,4 +10,4 @@ mod fec {
     }
 }
 
-pub use fec::nb::{GF, NbCode, even_degrees, mix};
+pub use fec::nb::{GF, InfoSet, NbCode, RATES, code_at, degrees_for, even_degrees, mix};

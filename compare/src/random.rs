@@ -19,4 +19,27 @@ impl Random {
     pub fn below(&mut self, limit: usize) -> usize {
         (self.next() >> 16) as usize % limit
     }
+
+    /// A size of a code, up to 256: small ones, ones at an end, and any.
+    pub fn size(&mut self) -> usize {
+        match self.below(8) {
+            0 => self.below(5),
+            1 | 2 => self.below(17),
+            3 | 4 => self.below(65),
+            5 => [0, 1, 2, 31, 32, 33, 127, 128, 129, 254, 255, 256][self.below(12)],
+            _ => self.below(257),
+        }
+    }
+
+    /// Puts entries in another order.
+    pub fn shuffle<T>(&mut self, entries: &mut [T]) {
+        for i in (1..entries.len()).rev() {
+            entries.swap(i, self.below(i + 1));
+        }
+    }
+
+    /// So many symbols below `limit`, which is at most 256.
+    pub fn symbols(&mut self, count: usize, limit: usize) -> Vec<u8> {
+        (0..count).map(|_| self.below(limit) as u8).collect()
+    }
 }

@@ -1,1 +1,2 @@
 pub mod OneNumber
+pub mod OnCode

@@ -4,3 +4,5 @@ pub mod Inv
 pub mod Draws
 pub mod EvenDegrees
 pub mod NewCode
+pub mod OnCode
+pub mod ChecksOk

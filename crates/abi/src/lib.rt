@@ -15,6 +15,8 @@ use field::splitmix64::SplitMix64;
 use graph::Answer;
 use graph::NewCode;
 
+mod on_code;
+
 #[no_mangle]
 pub extern "C" fn hazgunek_mul(a: u8, b: u8, product: &mut u8) -> u8
     ensures { λ r. ⌜ _≡_ {A = OneNumber} (record { number = r; part = now (product .exit) }) (multiplied a b (now (product .entry))) ⌝ }

@@ -18,8 +18,8 @@ use Rattle.words.specs.OnCode.{Told, told}
 unfoldable pub degreeIn : Graph → ℕ → ℕ
 degreeIn g v = times v (variables g)
 
-unfoldable pub degree : Code → Parts → ℕ → MatrixWork → Told Number
-degree c p v work =
+unfoldable pub degreeOf : Code → Parts → ℕ → MatrixWork → Told Number
+degreeOf c p v work =
     -- 8: "a position not below n"
     told (refusals c p work false ++ (leb (c .n) v, 8) ∷ [])
     Refused (Found (degreeIn (graphIn c p) v))

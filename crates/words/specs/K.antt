@@ -12,5 +12,5 @@ use Rattle.words.specs.declared.Number.the-variants.{Found, Refused}
 use Rattle.words.specs.Encoding.{informationOf}
 use Rattle.words.specs.OnCode.{Told, told}
 
-unfoldable pub k : Code → Parts → MatrixWork → Told Number
-k c p work = told (refusals c p work false) Refused (Found (length (informationOf (graphIn c p) (p .order)))) work
+unfoldable pub kOf : Code → Parts → MatrixWork → Told Number
+kOf c p work = told (refusals c p work false) Refused (Found (length (informationOf (graphIn c p) (p .order)))) work

@@ -10,5 +10,5 @@ use Rattle.words.specs.declared.Number.{Number}
 use Rattle.words.specs.declared.Number.the-variants.{Found, Refused}
 use Rattle.words.specs.OnCode.{Told, told}
 
-unfoldable pub n : Code → Parts → MatrixWork → Told Number
-n c p work = told (refusals c p work false) Refused (Found (graphIn c p .n)) work
+unfoldable pub nOf : Code → Parts → MatrixWork → Told Number
+nOf c p work = told (refusals c p work false) Refused (Found (graphIn c p .n)) work

@@ -10,9 +10,9 @@ ghost use Rattle.words.specs.OnCode.{Told, Filled};
 ghost use Rattle.words.specs.Encode.{encode};
 ghost use Rattle.words.specs.InfoOf.{infoOf};
 ghost use Rattle.words.specs.ChecksOk.{checksOk};
-ghost use Rattle.words.specs.Degree.{degree};
-ghost use Rattle.words.specs.K.{k};
-ghost use Rattle.words.specs.N.{n};
+ghost use Rattle.words.specs.Degree.{degreeOf};
+ghost use Rattle.words.specs.K.{kOf};
+ghost use Rattle.words.specs.N.{nOf};
 ghost use Rattle.words.specs.InfoPositions.{infoPositions};
 use field::tables::EXP;
 use field::tables::LOG;
@@ -201,7 +201,7 @@ pub fn degree(
     pivots: &mut [u16],
 ) -> Number
     ensures { λ r. ⌜ _≡_ {A = Told Number} (record { answer = r; work = lentMatrix (h .exit) (pivots .exit) })
-        (degree code (lent (var .entry) (coef .entry) (row .entry) (start .entry) (col .entry) (order .entry) (parity .entry) (info .entry) (a .entry))
+        (degreeOf code (lent (var .entry) (coef .entry) (row .entry) (start .entry) (col .entry) (order .entry) (parity .entry) (info .entry) (a .entry))
         v (lentMatrix (h .entry) (pivots .entry))) ⌝ }
 {
     let refused = lent::refused(
@@ -244,7 +244,7 @@ pub fn k(
     pivots: &mut [u16],
 ) -> Number
     ensures { λ r. ⌜ _≡_ {A = Told Number} (record { answer = r; work = lentMatrix (h .exit) (pivots .exit) })
-        (k code (lent (var .entry) (coef .entry) (row .entry) (start .entry) (col .entry) (order .entry) (parity .entry) (info .entry) (a .entry))
+        (kOf code (lent (var .entry) (coef .entry) (row .entry) (start .entry) (col .entry) (order .entry) (parity .entry) (info .entry) (a .entry))
         (lentMatrix (h .entry) (pivots .entry))) ⌝ }
 {
     let refused = lent::refused(
@@ -284,7 +284,7 @@ pub fn n(
     pivots: &mut [u16],
 ) -> Number
     ensures { λ r. ⌜ _≡_ {A = Told Number} (record { answer = r; work = lentMatrix (h .exit) (pivots .exit) })
-        (n code (lent (var .entry) (coef .entry) (row .entry) (start .entry) (col .entry) (order .entry) (parity .entry) (info .entry) (a .entry))
+        (nOf code (lent (var .entry) (coef .entry) (row .entry) (start .entry) (col .entry) (order .entry) (parity .entry) (info .entry) (a .entry))
         (lentMatrix (h .entry) (pivots .entry))) ⌝ }
 {
     let refused = lent::refused(

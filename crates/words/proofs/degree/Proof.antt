@@ -19,7 +19,7 @@ use Rattle.graph.specs.Sound.{Sound}
 use Rattle.graph.proofs.Sound.{passed}
 use Rattle.graph.proofs.Formed.{list-length}
 use Rattle.words.specs.declared.Number.the-variants.{Found, Refused}
-use Rattle.words.specs.Degree.{degreeIn, degree}
+use Rattle.words.specs.Degree.{degreeIn, degreeOf}
 use Rattle.words.proofs.OnCode.{told-code, told-call, told-done}
 use Rattle.words.proofs.degree.Statement.{statement}
 use Rattle.words.proofs.degree.Tie as tie
@@ -56,14 +56,14 @@ inside c =
     (omega (arith, w .fits .n-small), w .formed .columns .rise (S (at c) .args .v) (omega arith), w .fits .parts .start)
 
 returns : tie.Need-returns
-unfolding degree
+unfolding degreeOf
 returns c =
     let r = c .before .before .before .before .before in
     let s = S r in
     told-code (s .args .code) (parts s) (work s) (rest s) ((leb (s .args .code .n) (s .args .v), 8) ∷ []) Refused _ (asked r) (r .refused .ensures .1) (c .if1 .taken)
 
 returns-2 : tie.Need-returns-2
-unfolding degree
+unfolding degreeOf
 returns-2 c =
     let r = c .before .before .before .before .before .before .before in
     let s = S r in
@@ -71,7 +71,7 @@ returns-2 c =
     8 (refusal-hit {k = 8} [] refl (le-leb (s .args .code .n) (s .args .v) (c .if2 .taken))) (λ e. omega arith) refl
 
 returns-3 : tie.Need-returns-3
-unfolding degree degreeIn
+unfolding degreeOf degreeIn
 returns-3 c =
     let i = c .before .before in
     let r = at i in

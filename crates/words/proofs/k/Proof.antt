@@ -14,7 +14,7 @@ use Rattle.graph.specs.Sound.{Sound}
 use Rattle.graph.proofs.Sound.{passed, sound-columns}
 use Rattle.words.specs.declared.Number.{Number}
 use Rattle.words.specs.declared.Number.the-variants.{Found, Refused}
-use Rattle.words.specs.K.{k}
+use Rattle.words.specs.K.{kOf}
 use Rattle.words.specs.OnCode.{Told}
 use Rattle.words.proofs.LentWords.{positions-length}
 use Rattle.words.proofs.OnCode.{told-code, told-done}
@@ -43,14 +43,14 @@ code : (c : tie.After-refused) → c .refused .result ≡ 0 → Sound (S c .args
 code c z = passed (S c .args .code) (parts (S c)) (work (S c)) (rest (S c)) (sym (asked c) ∙ z)
 
 returns : tie.Need-returns
-unfolding k
+unfolding kOf
 returns c =
     let r = c .before .before .before .before .before in
     let s = S r in
     told-code (s .args .code) (parts s) (work s) (rest s) [] Refused _ (asked r) (r .refused .ensures .1) (c .if1 .taken)
 
 returns-2 : tie.Need-returns-2
-unfolding k
+unfolding kOf
 returns-2 c =
     let r = c .before .before .before .before .before .before in
     let s = S r in

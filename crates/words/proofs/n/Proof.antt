@@ -10,7 +10,7 @@ use Rattle.graph.specs.LentCode.{MatrixWork, lentMatrix, refusals}
 use Rattle.calls.specs.Refusal.{refusal}
 use Rattle.graph.specs.Parts.{Parts, lent}
 use Rattle.words.specs.declared.Number.the-variants.{Found, Refused}
-use Rattle.words.specs.N.{n}
+use Rattle.words.specs.N.{nOf}
 use Rattle.words.proofs.OnCode.{told-code, told-done}
 use Rattle.words.proofs.n.Statement.{statement}
 use Rattle.words.proofs.n.Tie as tie
@@ -33,14 +33,14 @@ asked : (c : tie.After-refused) → c .refused .result ≡ refusal (refusals (S 
 asked c = c .refused .ensures .0
 
 returns : tie.Need-returns
-unfolding n
+unfolding nOf
 returns c =
     let r = c .before .before .before .before .before in
     let s = S r in
     told-code (s .args .code) (parts s) (work s) (rest s) [] Refused _ (asked r) (r .refused .ensures .1) (c .if1 .taken)
 
 returns-2 : tie.Need-returns-2
-unfolding n held
+unfolding nOf held
 returns-2 c =
     let r = c .before .before .before .before .before in
     let s = S r in

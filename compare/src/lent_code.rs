@@ -1,0 +1,129 @@
+//! The parts that a call on a lent code is lent, each guarded, and what must stand in them after
+//! it.
+
+use crate::abi::{self, OnCode};
+use crate::code::{A, COEF, COL, Code, INFO, NAMES, ORDER, PARITY, ROW, START, VAR, narrowed};
+use crate::filling::Filling;
+use crate::guarded::Guarded;
+use crate::on_code::{Answer, Call};
+use crate::report::Case;
+
+/// A code's parts by the width of their entries, each kind in the order of a call.
+const WIDE: [usize; 7] = [VAR, ROW, START, COL, ORDER, PARITY, INFO];
+const NARROW: [usize; 2] = [COEF, A];
+
+/// A code and the work parts as they are lent to a call.
+pub struct LentCode {
+    numbers: [usize; 4],
+    wide: [Guarded<u16>; WIDE.len()],
+    narrow: [Guarded<u8>; NARROW.len()],
+    h: Guarded<u8>,
+    pivots: Guarded<u16>,
+}
+
+impl LentCode {
+    /// The filling stands in the work parts, which have these lengths, and around every part.
+    pub fn new(code: &Code, [h, pivots]: [usize; 2], filling: &Filling) -> Self {
+        let narrow = |part: usize| Guarded::new(&narrowed(&code.parts[part]), filling.narrow);
+        Self {
+            numbers: [code.n, code.m, code.edges, code.rank],
+            wide: WIDE.map(|part| Guarded::new(&code.parts[part], filling.wide)),
+            narrow: NARROW.map(narrow),
+            h: Guarded::new(&vec![filling.narrow; h], filling.narrow),
+            pivots: Guarded::new(&vec![filling.wide; pivots], filling.wide),
+        }
+    }
+
+    fn lend(&mut self) -> OnCode<'_> {
+        let [n, m, edges, rank] = self.numbers;
+        OnCode {
+            n,
+            m,
+            edges,
+            rank,
+            wide: self.wide.each_mut().map(|part| &*part.lend()),
+            narrow: self.narrow.each_mut().map(|part| &*part.lend()),
+            h: self.h.lend(),
+            pivots: self.pivots.lend(),
+        }
+    }
+
+    /// Every call leaves the code as it was, and 0 in the work parts; only numbers 2 and 3 leave
+    /// those as they were.
+    pub fn compare(&self, case: &mut Case, code: &Code, filling: &Filling, number: u8) {
+        for (lent, part) in self.wide.iter().zip(WIDE) {
+            lent.compare(case, NAMES[part], &code.parts[part]);
+        }
+        for (lent, part) in self.narrow.iter().zip(NARROW) {
+            lent.compare(case, NAMES[part], &narrowed(&code.parts[part]));
+        }
+        let (narrow, wide) = match number {
+            2 | 3 => (filling.narrow, filling.wide),
+            _ => (0, 0),
+        };
+        let (h, pivots) = (self.h.part().len(), self.pivots.part().len());
+        self.h.compare(case, "work part h", &vec![narrow; h]);
+        self.pivots
+            .compare(case, "work part pivots", &vec![wide; pivots]);
+    }
+}
+
+/// The parts that a call has beside the code: what it reads, and an output of each kind. Those that
+/// it does not have are not lent to it.
+pub struct LentOwn {
+    given: Guarded<u8>,
+    found: Guarded<usize>,
+    ok: Guarded<u8>,
+    symbols: Guarded<u8>,
+    positions: Guarded<u16>,
+}
+
+impl LentOwn {
+    /// The filling stands in every output, and around every part.
+    pub fn new(call: &Call, filling: &Filling) -> Self {
+        let (symbols, positions) = match *call {
+            Call::Encode { word, .. } => (word, 0),
+            Call::InfoOf { syms, .. } => (syms, 0),
+            Call::InfoPositions { positions } => (0, positions),
+            _ => (0, 0),
+        };
+        Self {
+            given: Guarded::new(call.given(), filling.narrow),
+            found: Guarded::new(&[filling.number], filling.number),
+            ok: Guarded::new(&[filling.narrow], filling.narrow),
+            symbols: Guarded::new(&vec![filling.narrow; symbols], filling.narrow),
+            positions: Guarded::new(&vec![filling.wide; positions], filling.wide),
+        }
+    }
+
+    /// Makes the call, and gives its number.
+    pub fn call(&mut self, call: &Call, code: &mut LentCode) -> u8 {
+        let on = code.lend();
+        let (given, found) = (self.given.lend(), self.found.lend_one());
+        let (symbols, positions) = (self.symbols.lend(), self.positions.lend());
+        match *call {
+            Call::Encode { .. } => abi::encode(on, given, symbols),
+            Call::InfoOf { .. } => abi::info_of(on, given, found, symbols),
+            Call::ChecksOk { .. } => abi::checks_ok(on, given, self.ok.lend_one()),
+            Call::Degree { v } => abi::degree(on, v, found),
+            Call::K => abi::k(on, found),
+            Call::N => abi::n(on, found),
+            Call::InfoPositions { .. } => abi::info_positions(on, found, positions),
+        }
+    }
+
+    /// A call leaves what it reads as it was, and the answer in its outputs, or what was there.
+    pub fn compare(&self, case: &mut Case, call: &Call, filling: &Filling, answer: &Answer) {
+        self.given.compare(case, "symbols read", call.given());
+        let found = answer.found.unwrap_or(filling.number);
+        self.found.compare_one(case, "number found", found);
+        let ok = answer.ok.unwrap_or(filling.narrow);
+        self.ok.compare_one(case, "ok", ok);
+        let before = vec![filling.narrow; self.symbols.part().len()];
+        let symbols = answer.symbols.as_ref().unwrap_or(&before);
+        self.symbols.compare(case, "symbols", symbols);
+        let before = vec![filling.wide; self.positions.part().len()];
+        let positions = answer.positions.as_ref().unwrap_or(&before);
+        self.positions.compare(case, "positions", positions);
+    }
+}

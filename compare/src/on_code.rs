@@ -1,0 +1,262 @@
+//! One call on a lent code: what it is asked, and what document 01 and the original make of it.
+
+use crate::code::{Code, NAMES};
+use crate::filling::BEFORE;
+use crate::judge::judged;
+use crate::lent_code::{LentCode, LentOwn};
+use crate::oracle::NbCode;
+use crate::report::{Case, HeldTo, Tally};
+use std::fmt;
+
+/// A lent code: its name in a report, and what document 01 says of it.
+pub struct Judged {
+    pub name: String,
+    pub code: Code,
+    pub verdict: Result<NbCode, u8>,
+}
+
+impl Judged {
+    pub fn new(name: String, code: Code) -> Self {
+        let verdict = judged(&code);
+        Self {
+            name,
+            code,
+            verdict,
+        }
+    }
+
+    /// The original's code, where the lent one is not refused.
+    pub fn built(&self) -> &NbCode {
+        match &self.verdict {
+            Ok(built) => built,
+            Err(number) => panic!("{} is refused by {number}", self.name),
+        }
+    }
+}
+
+/// A call with what it reads beside the code, and the length of the part that it fills.
+#[derive(Clone)]
+pub enum Call {
+    Encode { syms: Vec<u8>, word: usize },
+    InfoOf { word: Vec<u8>, syms: usize },
+    ChecksOk { word: Vec<u8> },
+    Degree { v: usize },
+    K,
+    N,
+    InfoPositions { positions: usize },
+}
+
+/// The calls' names, in the order of the header.
+pub const CALLS: [&str; 7] = [
+    "encode",
+    "info_of",
+    "checks_ok",
+    "degree",
+    "k",
+    "n",
+    "info_positions",
+];
+
+impl Call {
+    /// Its place among all calls.
+    pub fn index(&self) -> usize {
+        match self {
+            Call::Encode { .. } => 0,
+            Call::InfoOf { .. } => 1,
+            Call::ChecksOk { .. } => 2,
+            Call::Degree { .. } => 3,
+            Call::K => 4,
+            Call::N => 5,
+            Call::InfoPositions { .. } => 6,
+        }
+    }
+
+    /// The symbols that it reads.
+    pub fn given(&self) -> &[u8] {
+        match self {
+            Call::Encode { syms, .. } => syms,
+            Call::InfoOf { word, .. } | Call::ChecksOk { word } => word,
+            _ => &[],
+        }
+    }
+
+    /// The lengths of its own parts that must be n: "words .. n", and the output parts, which
+    /// docs/PARTS.md gives that length. Information symbols for `encode` may have any.
+    fn lengths(&self) -> Vec<usize> {
+        match self {
+            Call::Encode { word, .. } => vec![*word],
+            Call::InfoOf { word, syms } => vec![word.len(), *syms],
+            Call::ChecksOk { word } => vec![word.len()],
+            Call::InfoPositions { positions } => vec![*positions],
+            Call::Degree { .. } | Call::K | Call::N => vec![],
+        }
+    }
+
+    /// Number 8: "A word symbol above 31 .., a position not below n, more information symbols than
+    /// the code has".
+    fn is_out_of_range(&self, built: &NbCode) -> bool {
+        match self {
+            Call::Encode { syms, .. } => syms.len() > built.info.len(),
+            Call::InfoOf { word, .. } | Call::ChecksOk { word } => word.iter().any(|&x| x > 31),
+            Call::Degree { v } => *v >= built.n,
+            Call::K | Call::N | Call::InfoPositions { .. } => false,
+        }
+    }
+}
+
+impl fmt::Display for Call {
+    fn fmt(&self, f: &mut fmt::Formatter) -> fmt::Result {
+        write!(f, "{}", CALLS[self.index()])?;
+        match self {
+            Call::Encode { syms, word } => write!(f, "({syms:?}, word of {word})"),
+            Call::InfoOf { word, syms } => write!(f, "({word:?}, symbols of {syms})"),
+            Call::ChecksOk { word } => write!(f, "({word:?})"),
+            Call::Degree { v } => write!(f, "({v})"),
+            Call::K | Call::N => Ok(()),
+            Call::InfoPositions { positions } => write!(f, "(positions of {positions})"),
+        }
+    }
+}
+
+/// The lengths of the work parts `h` and `pivots`.
+pub const WORK: [usize; 2] = [65_536, 256];
+
+/// What a call is asked: the code, the call, and the lengths of its work parts.
+pub struct Asked<'a> {
+    pub on: &'a Judged,
+    pub call: Call,
+    pub work: [usize; 2],
+}
+
+/// What a call that is not turned down puts in its outputs; nothing where it has none of that kind.
+#[derive(Default)]
+pub struct Answer {
+    /// The count, the degree, k or n.
+    pub found: Option<usize>,
+    pub ok: Option<u8>,
+    pub symbols: Option<Vec<u8>>,
+    pub positions: Option<Vec<u16>>,
+}
+
+impl<'a> Asked<'a> {
+    pub fn new(on: &'a Judged, call: Call) -> Self {
+        Self {
+            on,
+            call,
+            work: WORK,
+        }
+    }
+
+    /// Document 01's number, 0 where the call is not turned down.
+    pub fn number(&self) -> u8 {
+        let own = self.call.lengths();
+        let fits = self.work == WORK && own.iter().all(|&length| length == self.on.code.n);
+        match &self.on.verdict {
+            Err(2) => 2,
+            _ if !fits => 3,
+            Err(number) => *number,
+            Ok(built) if self.call.is_out_of_range(built) => 8,
+            Ok(_) => 0,
+        }
+    }
+
+    /// The original's answer, nothing where the call is turned down.
+    pub fn answer(&self) -> Answer {
+        if self.number() != 0 {
+            return Answer::default();
+        }
+        let (mut answer, built) = (Answer::default(), self.on.built());
+        match &self.call {
+            Call::Encode { syms, .. } => answer.symbols = Some(built.encode(syms)),
+            Call::InfoOf { word, .. } => {
+                let symbols = built.info_of(word);
+                answer.found = Some(symbols.len());
+                answer.symbols = Some(padded(symbols, built.n));
+            }
+            Call::ChecksOk { word } => answer.ok = Some(built.checks_ok(word).into()),
+            Call::Degree { v } => answer.found = Some(built.degree(*v)),
+            Call::K => answer.found = Some(built.k()),
+            Call::N => answer.found = Some(built.n()),
+            Call::InfoPositions { .. } => {
+                let positions = built.info_positions().iter().map(|&p| p as u16);
+                answer.found = Some(positions.len());
+                answer.positions = Some(padded(positions.collect(), built.n));
+            }
+        }
+        answer
+    }
+
+    /// The call with both fillings.
+    fn compare(&self, tally: &mut Tally) {
+        let (number, answer) = (self.number(), self.answer());
+        let held_to = match number {
+            0 => HeldTo::Rust,
+            _ => HeldTo::Document,
+        };
+        for filling in &BEFORE {
+            let mut code = LentCode::new(&self.on.code, self.work, filling);
+            let mut own = LentOwn::new(&self.call, filling);
+            let mut case = Case::held_to(held_to);
+            case.value("number", own.call(&self.call, &mut code), number);
+            code.compare(&mut case, &self.on.code, filling, number);
+            own.compare(&mut case, &self.call, filling, &answer);
+            tally.count(case, || {
+                format!("{self} with {} in each byte", filling.narrow)
+            });
+        }
+    }
+}
+
+/// A code of no more edges is printed whole, each part up to its last entry that is not 0.
+const PRINTED_EDGES: usize = 12;
+
+impl fmt::Display for Asked<'_> {
+    fn fmt(&self, f: &mut fmt::Formatter) -> fmt::Result {
+        write!(f, "{} of {}", self.call, self.on.name)?;
+        let Code {
+            n, m, edges, rank, ..
+        } = self.on.code;
+        write!(f, " (n {n}, m {m}, edges {edges}, rank {rank}")?;
+        if edges <= PRINTED_EDGES {
+            for (name, part) in NAMES.iter().zip(&self.on.code.parts) {
+                let used = part.iter().rposition(|&entry| entry != 0);
+                write!(f, ", {name} {:?}", &part[..used.map_or(0, |last| last + 1)])?;
+            }
+        }
+        write!(f, ")")?;
+        if self.work != WORK {
+            write!(f, " with work parts of {:?}", self.work)?;
+        }
+        Ok(())
+    }
+}
+
+/// "Where an answer is shorter than its output part, .. the rest of the part is 0."
+fn padded<T: Clone + Default>(mut answer: Vec<T>, length: usize) -> Vec<T> {
+    answer.resize(length, T::default());
+    answer
+}
+
+/// The cases of each call.
+pub struct Tallies([Tally; CALLS.len()]);
+
+impl Tallies {
+    pub fn new() -> Self {
+        Self(CALLS.map(Tally::new))
+    }
+
+    pub fn ask(&mut self, asked: &Asked) {
+        asked.compare(&mut self.0[asked.call.index()]);
+    }
+
+    pub fn ask_all(&mut self, on: &Judged, calls: Vec<Call>) {
+        for call in calls {
+            self.ask(&Asked::new(on, call));
+        }
+    }
+
+    /// Prints each call's line and gives the differences of all.
+    pub fn finish(self) -> u64 {
+        self.0.into_iter().map(Tally::finish).sum()
+    }
+}

@@ -1,0 +1,159 @@
+//! Words of a lent code: the seven calls on one beside the original's methods.
+
+use crate::calls::{bad_symbols, every_call, some_calls};
+use crate::code::Code;
+use crate::codes;
+use crate::filling::BEFORE;
+use crate::judge::judged;
+use crate::lent_code::{LentCode, LentOwn};
+use crate::on_code::{Asked, Call, Judged, Tallies, WORK};
+use crate::oracle::NbCode;
+use crate::random::Random;
+use crate::refused;
+use crate::speed::{best_times, print_ratio};
+use std::cell::RefCell;
+use std::hint::black_box;
+
+/// So many draws of words for each code of the four rates.
+const RATE_DRAWS: usize = 20;
+
+/// All comparisons of this layer; gives the differences.
+pub fn compare() -> u64 {
+    let mut tallies = Tallies::new();
+    let mut random = Random::new();
+    compare_starred(&mut tallies);
+    for on in codes::small() {
+        tallies.ask_all(&on, every_call(&mut random, on.built()));
+        tallies.ask_all(&on, bad_symbols(&mut random, on.built()));
+    }
+    for on in codes::ends() {
+        tallies.ask_all(&on, every_call(&mut random, on.built()));
+    }
+    for on in codes::rates() {
+        for _ in 0..RATE_DRAWS {
+            tallies.ask_all(&on, every_call(&mut random, on.built()));
+        }
+    }
+    for on in codes::built().chain(codes::any()) {
+        tallies.ask_all(&on, some_calls(&mut random, on.built()));
+    }
+    refused::compare(&mut tallies);
+    tallies.finish()
+}
+
+/// Document 01's value: "n = 3, m = 0: symbols 5, 37, 255 encode to 5, 5, 31".
+fn compare_starred(tallies: &mut Tallies) {
+    let built = NbCode::new(3, 0, &[0; 3], 0);
+    let on = Judged::new("n 3, m 0".to_string(), Code::of_new(&built));
+    let syms = vec![5, 37, 255];
+    assert_eq!(on.built().encode(&syms), [5, 5, 31], "document 01's value");
+    tallies.ask(&Asked::new(&on, Call::Encode { syms, word: 3 }));
+}
+
+// The Rust's methods, behind functions that are not inlined, as the archive's calls are not.
+
+#[inline(never)]
+fn rust_build_encoder(built: &mut NbCode, order: &[usize]) {
+    built.build_encoder(order);
+}
+
+#[inline(never)]
+fn rust_encode(built: &NbCode, syms: &[u8]) -> Vec<u8> {
+    built.encode(syms)
+}
+
+#[inline(never)]
+fn rust_checks_ok(built: &NbCode, word: &[u8]) -> bool {
+    built.checks_ok(word)
+}
+
+/// The rounds of a measurement, and how often the Rust's short methods are called in one.
+const ROUNDS: usize = 600;
+const TURNS: usize = 16;
+
+/// The speed of `encode` and `checks_ok` at each of the four rates, ours beside the Rust's: the
+/// whole call, and without the test of the lent code, which the Rust does not make. `k` and `n` are
+/// little else than that test, so its time is taken from them; `k` stands beside the Rust's
+/// elimination, which is most of the test.
+pub fn measure() {
+    for on in codes::rates().iter().step_by(2) {
+        measure_code(on);
+    }
+}
+
+fn measure_code(on: &Judged) {
+    let Code { n, m, .. } = on.code;
+    let built = on.built();
+    let syms = Random::new().symbols(built.k(), 32);
+    let word = built.encode(&syms);
+    let calls = [
+        Call::K,
+        Call::N,
+        Call::K,
+        Call::N,
+        Call::Encode {
+            syms: syms.clone(),
+            word: n,
+        },
+        Call::ChecksOk { word: word.clone() },
+    ];
+    // All in the same memory, since a difference of their times is taken.
+    let code = RefCell::new(LentCode::new(&on.code, WORK, &BEFORE[0]));
+    let mut ours = calls.map(|call| {
+        let mut own = LentOwn::new(&call, &BEFORE[0]);
+        let code = &code;
+        move || {
+            black_box(own.call(black_box(&call), &mut code.borrow_mut()));
+        }
+    });
+    let mut again = judged(&on.code).expect("the code is not refused");
+    let order: Vec<usize> = (0..n).rev().collect();
+    let [k, n_alone, k_again, n_again, encode, checks_ok] = ours.each_mut();
+    let best = best_times(
+        ROUNDS,
+        [
+            k,
+            n_alone,
+            k_again,
+            n_again,
+            encode,
+            checks_ok,
+            &mut || rust_build_encoder(black_box(&mut again), black_box(&order)),
+            &mut || {
+                for _ in 0..TURNS {
+                    black_box(rust_encode(black_box(built), black_box(&syms)));
+                }
+            },
+            &mut || {
+                for _ in 0..TURNS {
+                    black_box(rust_checks_ok(black_box(built), black_box(&word)));
+                }
+            },
+        ],
+    );
+    let tests = &best[..4];
+    let test = tests.iter().sum::<f64>() / tests.len() as f64;
+    let [least, most] = [f64::min, f64::max].map(|f| tests.iter().copied().reduce(f).unwrap());
+    let [k, .., encode, checks_ok, build, rust_encode, rust_checks_ok] = best;
+
+    let sizes = format!("{n} variables and {m} checks");
+    print_ratio(&format!("k beside build_encoder, {sizes}"), k, build);
+    let timed = [
+        ("encode", encode, rust_encode),
+        ("checks_ok", checks_ok, rust_checks_ok),
+    ];
+    for (name, ours, rust) in timed {
+        let rust = rust / TURNS as f64;
+        print_ratio(&format!("{name}, {sizes}"), ours, rust);
+        print_ratio(
+            &format!("{name} without the test, {sizes}"),
+            ours - test,
+            rust,
+        );
+    }
+    println!(
+        "  the test, timed {} times, is unsure by {:.0} ns",
+        tests.len(),
+        most - least
+    );
+}
