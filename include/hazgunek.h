@@ -4,7 +4,7 @@
  * every lent part. A pointer is never null and points to as many elements as its length says, to one where it has no length; a
  * length of 0 still wants a pointer that is not null. Two parts of one call do not overlap.
  *
- * Kept in step with crates/abi/src/lib.rt by hand. */
+ * Kept in step with crates/abi/src/ by hand. */
 #ifndef HAZGUNEK_H
 #define HAZGUNEK_H
 
@@ -88,6 +88,89 @@ uint8_t hazgunek_new(size_t n, size_t m, uint64_t seed, const size_t *degrees, s
                      uint16_t *parity, size_t parity_len, uint16_t *info, size_t info_len, uint8_t *a, size_t a_len,
                      uint8_t *chk, size_t chk_len, uint16_t *load, size_t load_len, uint8_t *own, size_t own_len,
                      uint16_t *deg, size_t deg_len);
+
+/* Words of a code. Each call below first tests the lent code, whatever stands in its parts, and works in two parts. With a code and
+ * work of the structs here, and k information symbols:
+ *
+ *     number = hazgunek_encode(HAZGUNEK_CODE(n, m, &code), syms, k, word, n, HAZGUNEK_WORK(&work));
+ *
+ * 2: n or m is above 256. 3: a part has not its length; 2 and 3 touch nothing. 6: the lent code is no graph with a column order.
+ * 7: its parity, information or table is not what elimination gives. 6 to 8 leave every output as it was. The work parts are all zero
+ * after 6, 7, 8 and 0. docs/PARTS.md has the numbers in full. */
+
+/* What the test of a lent code works in. Any values may stand in it before a call. */
+struct hazgunek_work {
+    uint8_t h[HAZGUNEK_PAIRS];
+    uint16_t pivots[HAZGUNEK_POSITIONS];
+};
+
+/* The arguments for a lent code, and for the work parts: `code` points to a struct hazgunek_code, `work` to a struct hazgunek_work. */
+#define HAZGUNEK_CODE(n, m, code) (n), (m), (code)->edges, (code)->rank, HAZGUNEK_CODE_PARTS(code)
+#define HAZGUNEK_WORK(work) (work)->h, HAZGUNEK_PAIRS, (work)->pivots, HAZGUNEK_POSITIONS
+
+/* word[0] to word[n - 1] = the encoding of the given symbols, each mod 32, missing ones 0. 8: syms_len is above n - rank. */
+uint8_t hazgunek_encode(size_t n, size_t m, size_t edges, size_t rank, const uint16_t *var, size_t var_len,
+                        const uint8_t *coef, size_t coef_len, const uint16_t *row, size_t row_len,
+                        const uint16_t *start, size_t start_len, const uint16_t *col, size_t col_len,
+                        const uint16_t *order, size_t order_len, const uint16_t *parity, size_t parity_len,
+                        const uint16_t *info, size_t info_len, const uint8_t *a, size_t a_len,
+                        const uint8_t *syms, size_t syms_len, uint8_t *word, size_t word_len,
+                        uint8_t *h, size_t h_len, uint16_t *pivots, size_t pivots_len);
+
+/* The word's information symbols to the front of syms, which has n entries, the rest 0; *count = how many they are. 8: a symbol of the
+ * word is above 31. */
+uint8_t hazgunek_info_of(size_t n, size_t m, size_t edges, size_t rank, const uint16_t *var, size_t var_len,
+                         const uint8_t *coef, size_t coef_len, const uint16_t *row, size_t row_len,
+                         const uint16_t *start, size_t start_len, const uint16_t *col, size_t col_len,
+                         const uint16_t *order, size_t order_len, const uint16_t *parity, size_t parity_len,
+                         const uint16_t *info, size_t info_len, const uint8_t *a, size_t a_len,
+                         const uint8_t *word, size_t word_len, size_t *count, uint8_t *syms, size_t syms_len,
+                         uint8_t *h, size_t h_len, uint16_t *pivots, size_t pivots_len);
+
+/* *ok = 1 where the word satisfies all checks, 0 where not. 8: a symbol of the word is above 31. */
+uint8_t hazgunek_checks_ok(size_t n, size_t m, size_t edges, size_t rank, const uint16_t *var, size_t var_len,
+                           const uint8_t *coef, size_t coef_len, const uint16_t *row, size_t row_len,
+                           const uint16_t *start, size_t start_len, const uint16_t *col, size_t col_len,
+                           const uint16_t *order, size_t order_len, const uint16_t *parity, size_t parity_len,
+                           const uint16_t *info, size_t info_len, const uint8_t *a, size_t a_len,
+                           const uint8_t *word, size_t word_len, uint8_t *ok,
+                           uint8_t *h, size_t h_len, uint16_t *pivots, size_t pivots_len);
+
+/* *degree = how many edges variable v has. 8: v is not below n. */
+uint8_t hazgunek_degree(size_t n, size_t m, size_t edges, size_t rank, const uint16_t *var, size_t var_len,
+                        const uint8_t *coef, size_t coef_len, const uint16_t *row, size_t row_len,
+                        const uint16_t *start, size_t start_len, const uint16_t *col, size_t col_len,
+                        const uint16_t *order, size_t order_len, const uint16_t *parity, size_t parity_len,
+                        const uint16_t *info, size_t info_len, const uint8_t *a, size_t a_len,
+                        size_t v, size_t *degree,
+                        uint8_t *h, size_t h_len, uint16_t *pivots, size_t pivots_len);
+
+/* *k = how many information positions the code has. */
+uint8_t hazgunek_k(size_t n, size_t m, size_t edges, size_t rank, const uint16_t *var, size_t var_len,
+                   const uint8_t *coef, size_t coef_len, const uint16_t *row, size_t row_len,
+                   const uint16_t *start, size_t start_len, const uint16_t *col, size_t col_len,
+                   const uint16_t *order, size_t order_len, const uint16_t *parity, size_t parity_len,
+                   const uint16_t *info, size_t info_len, const uint8_t *a, size_t a_len,
+                   size_t *k,
+                   uint8_t *h, size_t h_len, uint16_t *pivots, size_t pivots_len);
+
+/* *symbols = how many symbols the code's words have. */
+uint8_t hazgunek_n(size_t n, size_t m, size_t edges, size_t rank, const uint16_t *var, size_t var_len,
+                   const uint8_t *coef, size_t coef_len, const uint16_t *row, size_t row_len,
+                   const uint16_t *start, size_t start_len, const uint16_t *col, size_t col_len,
+                   const uint16_t *order, size_t order_len, const uint16_t *parity, size_t parity_len,
+                   const uint16_t *info, size_t info_len, const uint8_t *a, size_t a_len,
+                   size_t *symbols,
+                   uint8_t *h, size_t h_len, uint16_t *pivots, size_t pivots_len);
+
+/* The information positions, ascending, to the front of positions, which has n entries, the rest 0; *count = how many they are. */
+uint8_t hazgunek_info_positions(size_t n, size_t m, size_t edges, size_t rank, const uint16_t *var, size_t var_len,
+                                const uint8_t *coef, size_t coef_len, const uint16_t *row, size_t row_len,
+                                const uint16_t *start, size_t start_len, const uint16_t *col, size_t col_len,
+                                const uint16_t *order, size_t order_len, const uint16_t *parity, size_t parity_len,
+                                const uint16_t *info, size_t info_len, const uint8_t *a, size_t a_len,
+                                size_t *count, uint16_t *positions, size_t positions_len,
+                                uint8_t *h, size_t h_len, uint16_t *pivots, size_t pivots_len);
 
 #ifdef __cplusplus
 }

@@ -1,7 +1,7 @@
 -- How a lent code turns a call down: numbers 2, 3, 6 and 7, and the work parts that the test of a lent code takes. Document 01, "Turning a call down".
 -- Assumes nothing.
 use mathlib.Core.Path.{_≡_}
-use mathlib.Core.Bool.{Bool, false}
+use mathlib.Core.Bool.{Bool}
 use mathlib.Core.List.{List, [], _∷_, _++_}
 use Prim.Native.Nat.{ℕ}
 use lib.ListN.{length}

@@ -1,8 +1,8 @@
 -- What a lent code that is not refused gives the calls: its information positions, its parity positions and its table, and so the encoding.
 -- Assumes nothing.
+use Prim.Native.Nat.{ℕ, _+_, _-_, _*_, _<_, _≤_}
 use mathlib.Core.Path.{_≡_, refl, sym, ap, ap₂, _∙_}
 use mathlib.Core.List.{List, map}
-use Prim.Native.Nat.{ℕ, _+_, _-_, _*_, _<_, _≤_}
 use native.Mathlib.Omega.{arith}
 use lib.ListN.{length, replicate, length-map, List·getD-eq-default}
 use Rattle.lists.specs.Chain.{startOf}
@@ -21,7 +21,7 @@ use Rattle.graph.specs.Misencoded.{graphIn, reducedIn}
 use Rattle.graph.specs.Parts.{Parts, table}
 use Rattle.graph.specs.Sound.{Sound}
 use Rattle.graph.proofs.Infos.{info-inside, table-fits}
-use Rattle.graph.proofs.Sound.{sound-columns, sound-infos, sound-eliminated}
+use Rattle.graph.proofs.Sound.{sound-infos, sound-eliminated}
 use Rattle.words.specs.Encoding.{informationOf, symbol, placed, paritySymbol, encoding, infoSymbols}
 use Rattle.words.proofs.Encodings.{info-values}
 use Rattle.words.proofs.Placed.{placed-ext}

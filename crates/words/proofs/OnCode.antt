@@ -1,10 +1,10 @@
 -- The ends of a call on a lent code: turned down by the code, by a test of its own, and not at all. `a` are the tests of the code, `b` the call's own.
 -- Assumes nothing.
+use Prim.Native.Nat.{ℕ}
 use mathlib.Core.Path.{_≡_, refl, sym, ap, ap₂, _∙_}
 use mathlib.Core.Logic.{_≢_}
 use mathlib.Core.Bool.{Bool, false}
 use mathlib.Core.List.{List, _++_}
-use Prim.Native.Nat.{ℕ}
 use Rattle.calls.specs.Refusal.{refusal}
 use Rattle.calls.specs.Parts.{touchesNothing, answered}
 use Rattle.calls.proofs.Refusal.{first, second}

@@ -1,10 +1,11 @@
 -- The theorem about words, of every code that is not refused. Demand 3: "any n symbols below 32 satisfy all checks exactly when they are the encoding of their own
 -- information symbols; sums and field multiples of such words are such words"; and a graph has the same words in every column order.
 -- Assumes nothing.
+use Prim.Native.Nat.{ℕ, _<_}
 use mathlib.Core.Path.{_≡_, sym, ap, subst, _∙_}
 use mathlib.Core.Logic.{_↔_}
+use mathlib.Core.Bool.{true}
 use mathlib.Core.List.{List}
-use Prim.Native.Nat.{ℕ, _<_}
 use lib.ListN.{length}
 use Rattle.lists.specs.Entry.{nth}
 use Rattle.lists.specs.Values.{values}
@@ -19,7 +20,8 @@ use Rattle.graph.proofs.Sound.{sound}
 use Rattle.graph.proofs.Entries.{Small, Inside, held-small, held-inside}
 use Rattle.words.specs.Encoding.{informationOf, symbol, encoding, infoSymbols}
 use Rattle.words.specs.Linear.{sumOf, multipleOf}
-use Rattle.words.specs.Word.{Symbols, Word}
+use Rattle.words.specs.Word.{Symbols, Word, allSatisfied}
+use Rattle.words.proofs.CheckSums.{all-satisfied}
 use Rattle.words.proofs.Encodings.{encoding-info, info-own, encoding-word, words-encodings}
 use Rattle.words.proofs.Linear.{word-sum, word-multiple, encoding-sum, encoding-multiple}
 
@@ -33,6 +35,8 @@ module _ (c : Code) (p : Parts) where
   pub record Words : Type 0 where
     -- n symbols below 32 are a word exactly when they are the encoding of their own information symbols
     pub encodings : (x : List ℕ) → Symbols (c .n) x → Word g x ↔ (x ≡ encoding g order (infoSymbols g order x))
+    -- and exactly when the test of all checks says so
+    pub checked : (x : List ℕ) → Symbols (c .n) x → Word g x ↔ (allSatisfied g x ≡ true)
     pub sums : (x y : List ℕ) → Word g x → Word g y → Word g (sumOf x y)
     pub multiples : (f : ℕ) (x : List ℕ) → Word g x → Word g (multipleOf f x)
     -- every encoding is a word, with the given symbols as its information symbols
@@ -57,6 +61,7 @@ module _ {c : Code} {p : Parts} (w : Sound c p) where
   unfolding held
   sound-words = record {
     encodings = words-encodings (g c p) (order c p) small (w .formed .order) inside;
+    checked = λ x y. (λ v. all-satisfied (g c p) x .1 (v .satisfied), λ e. record { symbols = y; satisfied = all-satisfied (g c p) x .0 e });
     sums = word-sum (g c p);
     multiples = word-multiple (g c p);
     encoded = encoding-word (g c p) (order c p) small (w .formed .order) inside;

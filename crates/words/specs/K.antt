@@ -1,6 +1,5 @@
 -- The call k: how many information positions a code has. nb.rs, `k`.
 -- Assumes nothing.
-use Prim.Native.Nat.{ℕ}
 use mathlib.Core.Bool.{false}
 use lib.ListN.{length}
 use Rattle.graph.specs.declared.Code.{Code}

@@ -1,6 +1,5 @@
 -- The call n: how many symbols a code's words have. nb.rs, `n`.
 -- Assumes nothing.
-use Prim.Native.Nat.{ℕ}
 use mathlib.Core.Bool.{false}
 use Rattle.graph.specs.declared.Code.{Code}
 use Rattle.graph.specs.Parts.{Parts}

@@ -14,7 +14,7 @@ use Rattle.graph.specs.declared.Code.{Code}
 use Rattle.graph.specs.declared.NewCode.{NewCode}
 use Rattle.graph.specs.declared.NewCode.the-variants.{Built}
 use Rattle.graph.specs.Sizes.{tooLarge, codeLengths}
-use Rattle.graph.specs.Parts.{Parts, parts}
+use Rattle.graph.specs.Parts.{Parts}
 use Rattle.graph.specs.New.{Work, New}
 use Rattle.graph.proofs.Ends.{earlyTests, lateTests, blankWork, new-stopped, new-turned, new-built, new-long, new-parts, new-work, new-buildable}
 use Rattle.graph.proofs.new.Statement.{statement}

@@ -1,25 +1,22 @@
 -- `words::checks_ok` meets its contract: the test of the code and of the symbols decide.
 -- Assumes nothing.
+use Prim.Native.Nat.{ℕ, _-_}
 use mathlib.Core.Path.{_≡_, refl, sym, ap, _∙_}
-use mathlib.Core.Bool.{Bool, false, not, or-false, _||_}
+use mathlib.Core.Bool.{Bool, false, not, or-false}
 use mathlib.Core.List.{List, [], _∷_}
-use Prim.Native.Nat.{ℕ, _-_, _<_, _≤_}
 use native.Mathlib.Omega.{arith}
 use borrow.Author.Needs.{needs}
-use borrow.Author.Tests.{eqb-true, not-false}
 use denote.Ref.{now}
 use lib.Dec.{eqb}
 use lib.ListN.{length}
-use Rattle.lists.specs.Entry.{nth}
 use Rattle.calls.specs.Refusal.{refusal, misfit}
 use Rattle.calls.proofs.Refusal.{alike, refusal-hit, refusal-miss, refusal-none}
+use Rattle.field.proofs.Logarithms.{exps, logs, tabled}
 use Rattle.graph.specs.Held.{held}
 use Rattle.graph.specs.LentCode.{MatrixWork, lentMatrix, refusals}
 use Rattle.graph.specs.Parts.{Parts, lent}
-use Rattle.graph.specs.Misencoded.{graphIn}
 use Rattle.graph.specs.Sound.{Sound}
 use Rattle.graph.proofs.Sound.{passed}
-use Rattle.field.proofs.Logarithms.{exps, logs, tabled}
 use Rattle.words.specs.declared.Verdict.the-variants.{Checked, Refused}
 use Rattle.words.specs.BadWord.{badWord}
 use Rattle.words.specs.Word.{allSatisfied}

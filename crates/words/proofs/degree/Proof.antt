@@ -1,9 +1,9 @@
 -- `words::degree` meets its contract: the test of the code and of the position decide, and a list by variable is as long as the variable has edges.
 -- Assumes nothing.
+use Prim.Native.Nat.{_+_, _<_, _≤_}
 use mathlib.Core.Path.{_≡_, refl, sym, ap, _∙_}
 use mathlib.Core.Bool.{Bool, false}
 use mathlib.Core.List.{[], _∷_}
-use Prim.Native.Nat.{ℕ, _+_, _<_, _≤_}
 use native.Mathlib.Omega.{arith}
 use borrow.Author.Needs.{needs}
 use borrow.Author.Tests.{le-leb, lt-leb}
@@ -11,9 +11,9 @@ use denote.Ref.{now}
 use lib.Dec.{leb}
 use lib.ListN.{length}
 use Rattle.lists.specs.Entry.{nth}
+use Rattle.calls.specs.Refusal.{refusal}
 use Rattle.calls.proofs.Refusal.{refusal-hit, refusal-miss, refusal-none}
 use Rattle.graph.specs.LentCode.{MatrixWork, lentMatrix, refusals}
-use Rattle.calls.specs.Refusal.{refusal}
 use Rattle.graph.specs.Parts.{Parts, lent}
 use Rattle.graph.specs.Sound.{Sound}
 use Rattle.graph.proofs.Sound.{passed}

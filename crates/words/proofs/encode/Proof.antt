@@ -1,32 +1,24 @@
 -- `words::encode` meets its contract: the tests of the code and of the number of symbols decide; symbols, then parity, are placed.
 -- Assumes nothing.
+use Prim.Native.Nat.{ℕ, _-_}
 use mathlib.Core.Path.{_≡_, refl, sym, ap, _∙_}
-use mathlib.Core.Bool.{Bool, false, not, or-false, _||_}
+use mathlib.Core.Bool.{Bool, false, not, or-false}
 use mathlib.Core.List.{List, [], _∷_}
-use Prim.Native.Nat.{ℕ, _-_, _<_, _≤_}
 use native.Mathlib.Omega.{arith}
 use borrow.Author.Needs.{needs}
-use borrow.Author.Tests.{eqb-true, not-false}
+use borrow.Author.Tests.{lt-ltb, le-ltb}
 use denote.Ref.{now}
 use lib.Dec.{eqb}
-use lib.ListN.{length}
-use Rattle.lists.specs.Entry.{nth}
+use lib.ListN.{length, replicate, length-replicate}
 use Rattle.calls.specs.Refusal.{refusal, misfit}
 use Rattle.calls.proofs.Refusal.{alike, refusal-hit, refusal-miss, refusal-none}
-use Rattle.graph.specs.Held.{held}
+use Rattle.field.proofs.Logarithms.{exps, logs, tabled}
 use Rattle.graph.specs.LentCode.{MatrixWork, lentMatrix, refusals}
 use Rattle.graph.specs.Parts.{Parts, lent}
-use Rattle.graph.specs.Misencoded.{graphIn}
 use Rattle.graph.specs.Sound.{Sound}
-use borrow.Author.Tests.{lt-ltb, le-ltb}
-use lib.Dec.{ltb}
-use lib.ListN.{replicate, length-replicate}
+use Rattle.graph.specs.declared.Answer.the-variants.{Refused}
 use Rattle.graph.proofs.Sound.{passed, sound-columns}
-use Rattle.field.specs.Field.{product}
-use Rattle.field.specs.FieldSum.{fieldSum}
-use Rattle.field.proofs.Logarithms.{exps, logs, tabled}
-use Rattle.graph.specs.declared.Answer.the-variants.{Done, Refused}
-use Rattle.words.specs.Encoding.{symbol, placed}
+use Rattle.words.specs.Encoding.{placed}
 use Rattle.words.specs.Encode.{tooManySymbols, encode}
 use Rattle.words.proofs.Placed.{placed-length}
 use Rattle.words.proofs.LentWords.{positions-length, positions-inside, parity-inside, table-room, encoded-is}

@@ -1,27 +1,22 @@
 -- `words::info_positions` meets its contract: the test of the code decides, and the positions stand in it.
 -- Assumes nothing.
-use mathlib.Core.Path.{_≡_, refl, sym, ap, _∙_}
-use mathlib.Core.Bool.{Bool, false, not, or-false, _||_}
-use mathlib.Core.List.{List, [], _∷_}
-use Prim.Native.Nat.{ℕ, _-_, _<_, _≤_}
+use Prim.Native.Nat.{_-_}
+use mathlib.Core.Path.{_≡_, sym, ap, _∙_}
+use mathlib.Core.Bool.{Bool, false, not, or-false}
+use mathlib.Core.List.{[], _∷_}
 use native.Mathlib.Omega.{arith}
 use borrow.Author.Needs.{needs}
-use borrow.Author.Tests.{eqb-true, not-false}
 use denote.Ref.{now}
 use lib.Dec.{eqb}
-use lib.ListN.{length}
-use Rattle.lists.specs.Entry.{nth}
+use lib.ListN.{length, length-replicate}
 use Rattle.calls.specs.Refusal.{refusal, misfit}
-use Rattle.calls.proofs.Refusal.{alike, refusal-hit, refusal-miss, refusal-none}
-use Rattle.graph.specs.Held.{held}
+use Rattle.calls.specs.Parts.{padded}
+use Rattle.calls.proofs.Refusal.{alike, refusal-none}
+use Rattle.calls.proofs.Parts.{padded-filled}
 use Rattle.graph.specs.LentCode.{MatrixWork, lentMatrix, refusals}
 use Rattle.graph.specs.Parts.{Parts, lent}
-use Rattle.graph.specs.Misencoded.{graphIn}
 use Rattle.graph.specs.Sound.{Sound}
 use Rattle.graph.proofs.Sound.{passed, sound-columns}
-use Rattle.calls.proofs.Parts.{padded-filled}
-use lib.ListN.{length-replicate}
-use Rattle.calls.specs.Parts.{padded}
 use Rattle.words.specs.declared.Number.the-variants.{Found, Refused}
 use Rattle.words.specs.InfoPositions.{infoPositions}
 use Rattle.words.proofs.LentWords.{positions-length, positions-all}

@@ -3,19 +3,16 @@
 use mathlib.Core.Path.{_≡_, sym, ap, _∙_}
 use mathlib.Core.Bool.{Bool, false}
 use mathlib.Core.List.{[]}
-use Prim.Native.Nat.{ℕ}
 use native.Mathlib.Omega.{arith}
 use borrow.Author.Needs.{needs}
+use Rattle.calls.specs.Refusal.{refusal}
 use Rattle.calls.proofs.Refusal.{refusal-none}
 use Rattle.graph.specs.LentCode.{MatrixWork, lentMatrix, refusals}
-use Rattle.calls.specs.Refusal.{refusal}
 use Rattle.graph.specs.Parts.{Parts, lent}
 use Rattle.graph.specs.Sound.{Sound}
 use Rattle.graph.proofs.Sound.{passed, sound-columns}
-use Rattle.words.specs.declared.Number.{Number}
 use Rattle.words.specs.declared.Number.the-variants.{Found, Refused}
 use Rattle.words.specs.K.{kOf}
-use Rattle.words.specs.OnCode.{Told}
 use Rattle.words.proofs.LentWords.{positions-length}
 use Rattle.words.proofs.OnCode.{told-code, told-done}
 use Rattle.words.proofs.k.Statement.{statement}

@@ -1,9 +1,8 @@
 -- `words::encoder::symbol` meets its contract.
 -- Assumes nothing.
-use mathlib.Core.Path.{refl, sym, ap}
 use Prim.Native.Nat.{ℕ, _%_}
+use mathlib.Core.Path.{refl, sym, ap}
 use native.Mathlib.Omega.{arith}
-use borrow.Author.Needs.{needs}
 use denote.Ref.{now}
 use lib.ListN.{List·getD-eq-default}
 use Rattle.words.proofs.encoder.symbol.Statement.{statement}
