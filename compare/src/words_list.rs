@@ -82,7 +82,8 @@ const LINES: &[Line] = &[
     (NO_VARIABLES, 1, None, ChecksOk(NO_SYMBOLS, SAME)),
     (NO_VARIABLES, 1, None, Asks::N),
     (NO_VARIABLES, 1, None, InfoPositions),
-    (NO_CHECKS, 2, None, Encode(Drawn(3, 3, 256))),
+    // Document 01's value: these draws are 5, 37 and 255, and the word is 5, 5, 31.
+    (NO_CHECKS, 2, None, Encode(Drawn(3, 32_481_079, 256))),
     (NO_CHECKS, 2, None, Encode(Drawn(2, 4, 256))),
     (NO_CHECKS, 2, None, Encode(Drawn(4, 5, 32))),
     (NO_CHECKS, 2, None, InfoOf(Drawn(3, 3, 256), SAME)),

@@ -346,8 +346,8 @@ pub fn info_positions(
     if refused != 0 {
         return Number::Refused(refused);
     }
-    let k = code.n - code.rank;
+    let count = code.n - code.rank;
     clear_u16(positions);
-    positions::copy_positions(k, info, positions);
-    Number::Found(k)
+    positions::copy_positions(count, info, positions);
+    Number::Found(count)
 }
