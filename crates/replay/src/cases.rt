@@ -4,7 +4,7 @@ ghost use Prim.Native.Nat.{_<_};
 use crate::print;
 
 // How many there are.
-pub const CALLS: usize = 5;
+pub const CALLS: usize = 12;
 
 pub enum Call {
     Mul,
@@ -12,6 +12,18 @@ pub enum Call {
     Draws,
     EvenDegrees,
     New,
+    OnCode(Ask),
+}
+
+// The calls on a code that is lent.
+pub enum Ask {
+    Encode,
+    InfoOf,
+    ChecksOk,
+    Degree,
+    K,
+    N,
+    InfoPositions,
 }
 
 pub enum Named {
@@ -42,6 +54,31 @@ pub fn call_named(word: &[u8]) -> Named {
     if check::same(word, b"new") {
         return Named::Is(Call::New);
     }
+    ask_named(word)
+}
+
+fn ask_named(word: &[u8]) -> Named {
+    if check::same(word, b"encode") {
+        return Named::Is(Call::OnCode(Ask::Encode));
+    }
+    if check::same(word, b"info_of") {
+        return Named::Is(Call::OnCode(Ask::InfoOf));
+    }
+    if check::same(word, b"checks_ok") {
+        return Named::Is(Call::OnCode(Ask::ChecksOk));
+    }
+    if check::same(word, b"degree") {
+        return Named::Is(Call::OnCode(Ask::Degree));
+    }
+    if check::same(word, b"k") {
+        return Named::Is(Call::OnCode(Ask::K));
+    }
+    if check::same(word, b"n") {
+        return Named::Is(Call::OnCode(Ask::N));
+    }
+    if check::same(word, b"info_positions") {
+        return Named::Is(Call::OnCode(Ask::InfoPositions));
+    }
     Named::Unknown
 }
 
@@ -52,6 +89,19 @@ pub fn print_name(call: Call) {
         Call::Draws => print::text(b"draws"),
         Call::EvenDegrees => print::text(b"even_degrees"),
         Call::New => print::text(b"new"),
+        Call::OnCode(ask) => print_name_of_ask(ask),
+    }
+}
+
+fn print_name_of_ask(ask: Ask) {
+    match ask {
+        Ask::Encode => print::text(b"encode"),
+        Ask::InfoOf => print::text(b"info_of"),
+        Ask::ChecksOk => print::text(b"checks_ok"),
+        Ask::Degree => print::text(b"degree"),
+        Ask::K => print::text(b"k"),
+        Ask::N => print::text(b"n"),
+        Ask::InfoPositions => print::text(b"info_positions"),
     }
 }
 
@@ -69,6 +119,7 @@ pub fn print_answer(call: Call, place: u64) {
             _ => print::text(b", digest of degrees"),
         },
         Call::New => print_answer_of_new(place),
+        Call::OnCode(ask) => print_answer_of_ask(ask, place),
     }
 }
 
@@ -93,9 +144,42 @@ fn print_answer_of_new(place: u64) {
     }
 }
 
+fn print_answer_of_ask(ask: Ask, place: u64) {
+    match place {
+        1 => print::text(b", number"),
+        2 => print_found(ask),
+        3 => print_part(ask),
+        4 => print::text(b", digest of the work part h"),
+        _ => print::text(b", digest of the work part pivots"),
+    }
+}
+
+// What a call finds beside its output part. `encode` finds nothing.
+fn print_found(ask: Ask) {
+    match ask {
+        Ask::Encode => (),
+        Ask::InfoOf => print::text(b", count of symbols"),
+        Ask::ChecksOk => print::text(b", verdict"),
+        Ask::Degree => print::text(b", degree"),
+        Ask::K => print::text(b", k"),
+        Ask::N => print::text(b", n"),
+        Ask::InfoPositions => print::text(b", count of positions"),
+    }
+}
+
+// The output part of a call that has one.
+fn print_part(ask: Ask) {
+    match ask {
+        Ask::Encode => print::text(b", digest of word"),
+        Ask::InfoOf => print::text(b", digest of syms"),
+        Ask::InfoPositions => print::text(b", digest of positions"),
+        _ => (),
+    }
+}
+
 // The call's place in a tally.
 pub fn index(call: Call) -> usize
-    ensures { λ r. ⌜ r < 5 ⌝ }
+    ensures { λ r. ⌜ r < 12 ⌝ }
 {
     match call {
         Call::Mul => 0,
@@ -103,5 +187,20 @@ pub fn index(call: Call) -> usize
         Call::Draws => 2,
         Call::EvenDegrees => 3,
         Call::New => 4,
+        Call::OnCode(ask) => index_of_ask(ask),
+    }
+}
+
+fn index_of_ask(ask: Ask) -> usize
+    ensures { λ r. ⌜ r < 12 ⌝ }
+{
+    match ask {
+        Ask::Encode => 5,
+        Ask::InfoOf => 6,
+        Ask::ChecksOk => 7,
+        Ask::Degree => 8,
+        Ask::K => 9,
+        Ask::N => 10,
+        Ask::InfoPositions => 11,
     }
 }

@@ -1,5 +1,6 @@
 // Replays a list: reads its file, takes it line by line, and makes the call of each case.
 use crate::cases;
+use crate::cases::Ask;
 use crate::cases::Call;
 use crate::cases::Named;
 use crate::cases::Outcome;
@@ -10,6 +11,7 @@ use crate::list::Cursor;
 use crate::print;
 use crate::tally;
 use crate::tally::Tally;
+use crate::word_calls;
 
 pub fn replay(name: &[u8]) {
     let file = os::open_read(name);
@@ -91,5 +93,18 @@ fn replay_call(name: &[u8], line: u64, call: Call, numbers: &[u64]) -> Outcome {
         Call::Draws => field_calls::draws(name, line, numbers),
         Call::EvenDegrees => graph_calls::even_degrees(name, line, numbers),
         Call::New => graph_calls::new(name, line, numbers),
+        Call::OnCode(ask) => replay_ask(name, line, ask, numbers),
+    }
+}
+
+fn replay_ask(name: &[u8], line: u64, ask: Ask, numbers: &[u64]) -> Outcome {
+    match ask {
+        Ask::Encode => word_calls::encode(name, line, numbers),
+        Ask::InfoOf => word_calls::info_of(name, line, numbers),
+        Ask::ChecksOk => word_calls::checks_ok(name, line, numbers),
+        Ask::Degree => word_calls::degree(name, line, numbers),
+        Ask::K => word_calls::k(name, line, numbers),
+        Ask::N => word_calls::n(name, line, numbers),
+        Ask::InfoPositions => word_calls::info_positions(name, line, numbers),
     }
 }

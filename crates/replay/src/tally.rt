@@ -1,5 +1,6 @@
 // Counts the cases of a list, those that differ, and the lines that are not understood. A file has fewer than 2^64 lines, so no count wraps.
 use crate::cases;
+use crate::cases::Ask;
 use crate::cases::CALLS;
 use crate::cases::Call;
 use crate::print;
@@ -57,6 +58,13 @@ pub fn print_tally(name: &[u8], t: Tally) {
     print_count(name, t, Call::Draws);
     print_count(name, t, Call::EvenDegrees);
     print_count(name, t, Call::New);
+    print_count(name, t, Call::OnCode(Ask::Encode));
+    print_count(name, t, Call::OnCode(Ask::InfoOf));
+    print_count(name, t, Call::OnCode(Ask::ChecksOk));
+    print_count(name, t, Call::OnCode(Ask::Degree));
+    print_count(name, t, Call::OnCode(Ask::K));
+    print_count(name, t, Call::OnCode(Ask::N));
+    print_count(name, t, Call::OnCode(Ask::InfoPositions));
     if t.all == 0 {
         print::about(name, b": no case\n");
     }
