@@ -1,5 +1,5 @@
-// The calls that a case may name, and what becomes of a case. A new call stands here, in the module of its layer, in `run::replay_call` and in
-// `tally::print_tally`.
+// The calls that a case may name, and what becomes of a case. A new call stands here, in the module of its layer, in `run::replay_call` (`run::replay_ask`
+// where it is made on a code) and in `tally::print_tally`.
 ghost use Prim.Native.Nat.{_<_};
 use crate::print;
 

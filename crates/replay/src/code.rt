@@ -8,6 +8,7 @@ use graph::Code;
 use graph::NewCode;
 
 // What `graph::new` answers and leaves, the work parts by their digests. By value, since fields of a struct are not lent side by side.
+// The parts stand first, in the order of a call: the prover's search finds them so.
 pub struct Built {
     pub var: [u16; 512],
     pub coef: [u8; 512],
