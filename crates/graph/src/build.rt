@@ -81,7 +81,7 @@ fn build_graph(
 {
     clear::clear_u16(load);
     clear::clear_u16(deg);
-    let s = growth::grow(chk, load, own, deg, degrees, m, n, seed);
+    let s = growth::peg::grow(chk, load, own, deg, degrees, m, n, seed);
     let count = edges::lay_checks(chk, load, m, var, row);
     edges::draw_coefs(count, s, coef);
     edges::lay_columns(var, count, n, start, col);
