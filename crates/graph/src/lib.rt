@@ -1,4 +1,4 @@
-// Codes: graph growth and elimination. The public calls of document 01 stand here; each is turned down by number and leaves its lent parts as its definition says.
+// Codes: building one, and testing one that is lent (`lent`). The public calls of document 01's part 2 stand here; each is turned down by number and leaves its lent parts as its definition says.
 ghost use mathlib.Core.Path.{_≡_};
 ghost use Rattle.graph.specs.EvenDegrees.{EvenDegrees, evenDegrees};
 ghost use Rattle.graph.specs.Parts.{lent};
