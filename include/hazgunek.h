@@ -172,6 +172,36 @@ uint8_t hazgunek_info_positions(size_t n, size_t m, size_t edges, size_t rank, c
                                 size_t *count, uint16_t *positions, size_t positions_len,
                                 uint8_t *h, size_t h_len, uint16_t *pivots, size_t pivots_len);
 
+/* Peeling of a code, with nothing known at first: while some check has exactly one unknown symbol, that symbol follows; when none has,
+ * an unknown symbol is picked. It is the one that frees the most checks, those where it would leave one unknown symbol; of these the one
+ * with the highest preference; of these the one at the highest position. Both calls take a preference for each of the n symbols, test
+ * the lent code as the calls on words do, and are turned down by 2, 3, 6 and 7 as those are. */
+
+/* The picks, in order, to the front of picks, which has n entries, the rest 0; *count = how many they are. */
+uint8_t hazgunek_peel_picks(size_t n, size_t m, size_t edges, size_t rank, const uint16_t *var, size_t var_len,
+                            const uint8_t *coef, size_t coef_len, const uint16_t *row, size_t row_len,
+                            const uint16_t *start, size_t start_len, const uint16_t *col, size_t col_len,
+                            const uint16_t *order, size_t order_len, const uint16_t *parity, size_t parity_len,
+                            const uint16_t *info, size_t info_len, const uint8_t *a, size_t a_len,
+                            const int64_t *prefer, size_t prefer_len, size_t *count, uint16_t *picks, size_t picks_len,
+                            uint8_t *h, size_t h_len, uint16_t *pivots, size_t pivots_len);
+
+/* The arguments for a lent code that is written over: `code` points to a struct hazgunek_code. */
+#define HAZGUNEK_PEELED_CODE(n, m, code) (n), (m), (code)->edges, &(code)->rank, HAZGUNEK_CODE_PARTS(code)
+
+/* Chooses the information positions by peeling: eliminates the code again, first in the columns that are not picked, ascending, then in
+ * the picks, reversed. The code's words stay the same. order, parity, info, a and *rank are read and written over; 2, 3, 6 and 7 leave
+ * them as they were. The other parts of the code are only read. With a code and work of the structs above:
+ *
+ *     number = hazgunek_with_peeled_info(HAZGUNEK_PEELED_CODE(n, m, &code), prefer, n, HAZGUNEK_WORK(&work)); */
+uint8_t hazgunek_with_peeled_info(size_t n, size_t m, size_t edges, size_t *rank, const uint16_t *var, size_t var_len,
+                                  const uint8_t *coef, size_t coef_len, const uint16_t *row, size_t row_len,
+                                  const uint16_t *start, size_t start_len, const uint16_t *col, size_t col_len,
+                                  uint16_t *order, size_t order_len, uint16_t *parity, size_t parity_len,
+                                  uint16_t *info, size_t info_len, uint8_t *a, size_t a_len,
+                                  const int64_t *prefer, size_t prefer_len,
+                                  uint8_t *h, size_t h_len, uint16_t *pivots, size_t pivots_len);
+
 #ifdef __cplusplus
 }
 #endif

@@ -97,6 +97,46 @@ calls_on_code! {
     fn hazgunek_k(k: *mut usize);
     fn hazgunek_n(symbols: *mut usize);
     fn hazgunek_info_positions(count: *mut usize, positions: *mut u16, positions_len: usize);
+    fn hazgunek_peel_picks(
+        prefer: *const i64,
+        prefer_len: usize,
+        count: *mut usize,
+        picks: *mut u16,
+        picks_len: usize
+    );
+}
+
+unsafe extern "C" {
+    fn hazgunek_with_peeled_info(
+        n: usize,
+        m: usize,
+        edges: usize,
+        rank: *mut usize,
+        var: *const u16,
+        var_len: usize,
+        coef: *const u8,
+        coef_len: usize,
+        row: *const u16,
+        row_len: usize,
+        start: *const u16,
+        start_len: usize,
+        col: *const u16,
+        col_len: usize,
+        order: *mut u16,
+        order_len: usize,
+        parity: *mut u16,
+        parity_len: usize,
+        info: *mut u16,
+        info_len: usize,
+        a: *mut u8,
+        a_len: usize,
+        prefer: *const i64,
+        prefer_len: usize,
+        h: *mut u8,
+        h_len: usize,
+        pivots: *mut u16,
+        pivots_len: usize,
+    ) -> u8;
 }
 
 // What the library asks of every pointer (not null, as many elements as said, no overlap) is true
@@ -268,4 +308,69 @@ pub fn info_positions(on: OnCode, count: &mut usize, positions: &mut [u16]) -> u
         on,
         hazgunek_info_positions(count, positions.as_mut_ptr(), positions.len())
     )
+}
+
+pub fn peel_picks(on: OnCode, prefer: &[i64], count: &mut usize, picks: &mut [u16]) -> u8 {
+    call_on_code!(
+        on,
+        hazgunek_peel_picks(
+            prefer.as_ptr(),
+            prefer.len(),
+            count,
+            picks.as_mut_ptr(),
+            picks.len()
+        )
+    )
+}
+
+/// A lent code of which a call writes over all but the graph, and the call's work parts. The parts
+/// stand by the width of their entries, each kind in the order of the call.
+pub struct OverCode<'a> {
+    pub n: usize,
+    pub m: usize,
+    pub edges: usize,
+    pub rank: &'a mut usize,
+    pub graph: [&'a [u16]; 4],
+    pub coef: &'a [u8],
+    pub encoder: [&'a mut [u16]; 3],
+    pub a: &'a mut [u8],
+    pub h: &'a mut [u8],
+    pub pivots: &'a mut [u16],
+}
+
+pub fn with_peeled_info(over: OverCode, prefer: &[i64]) -> u8 {
+    let [var, row, start, col] = over.graph;
+    let [order, parity, info] = over.encoder;
+    unsafe {
+        hazgunek_with_peeled_info(
+            over.n,
+            over.m,
+            over.edges,
+            over.rank,
+            var.as_ptr(),
+            var.len(),
+            over.coef.as_ptr(),
+            over.coef.len(),
+            row.as_ptr(),
+            row.len(),
+            start.as_ptr(),
+            start.len(),
+            col.as_ptr(),
+            col.len(),
+            order.as_mut_ptr(),
+            order.len(),
+            parity.as_mut_ptr(),
+            parity.len(),
+            info.as_mut_ptr(),
+            info.len(),
+            over.a.as_mut_ptr(),
+            over.a.len(),
+            prefer.as_ptr(),
+            prefer.len(),
+            over.h.as_mut_ptr(),
+            over.h.len(),
+            over.pivots.as_mut_ptr(),
+            over.pivots.len(),
+        )
+    }
 }

@@ -2,6 +2,7 @@
 
 use crate::on_code::Call;
 use crate::oracle::NbCode;
+use crate::preferences;
 use crate::random::Random;
 
 /// Each call once, of a code of n variables and k information positions; arguments are at times out
@@ -10,6 +11,7 @@ pub fn each_call(random: &mut Random, n: usize, k: usize) -> Vec<Call> {
     let limit = 32 + random.below(4) / 3;
     let count = random.below(k + 2);
     let (syms, word) = (random.symbols(count, 256), random.symbols(n, limit));
+    let prefer = preferences::at_random(random, n);
     vec![
         Call::Encode { syms, word: n },
         Call::InfoOf {
@@ -23,6 +25,11 @@ pub fn each_call(random: &mut Random, n: usize, k: usize) -> Vec<Call> {
         Call::K,
         Call::N,
         Call::InfoPositions { positions: n },
+        Call::PeelPicks {
+            prefer: prefer.clone(),
+            picks: n,
+        },
+        Call::WithPeeledInfo { prefer },
     ]
 }
 
@@ -35,7 +42,7 @@ pub fn some_calls(random: &mut Random, built: &NbCode) -> Vec<Call> {
     all
 }
 
-/// Each call with its arguments at every end.
+/// Each call on words with its arguments at every end.
 pub fn every_call(random: &mut Random, built: &NbCode) -> Vec<Call> {
     let (n, k) = (built.n, built.k());
     let mut all = vec![Call::K, Call::N, Call::InfoPositions { positions: n }];
@@ -77,7 +84,8 @@ fn words(random: &mut Random, built: &NbCode) -> Vec<Vec<u8>> {
     all
 }
 
-fn encoding(random: &mut Random, built: &NbCode) -> Vec<u8> {
+/// Of symbols at random.
+pub fn encoding(random: &mut Random, built: &NbCode) -> Vec<u8> {
     built.encode(&random.symbols(built.k(), 32))
 }
 

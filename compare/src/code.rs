@@ -83,6 +83,12 @@ impl Code {
         code
     }
 
+    /// The original's code after its `with_peeled_info`, by the preference of each variable.
+    pub fn peeled(built: &NbCode, prefer: &[i64]) -> Self {
+        let order = peeled_order(built, prefer);
+        Self::of(&built.clone().with_peeled_info(|v| prefer[v]), &order)
+    }
+
     /// The value at a place.
     pub fn get(&self, part: usize, entry: usize) -> usize {
         match part {
@@ -111,6 +117,14 @@ impl Code {
             }
         }
     }
+}
+
+/// The column order of `with_peeled_info`, which does not keep it: the positions that are not
+/// picked ascending, then the picks reversed.
+pub fn peeled_order(built: &NbCode, prefer: &[i64]) -> Vec<usize> {
+    let picks = built.peel_picks(|v| prefer[v]);
+    let others = (0..built.n).filter(|v| !picks.contains(v));
+    others.chain(picks.iter().rev().copied()).collect()
 }
 
 /// The greatest value of a place.

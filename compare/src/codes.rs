@@ -1,9 +1,10 @@
 //! Lent codes that are not refused: the original's own, and graphs that no build makes.
 
 use crate::asked;
-use crate::code::Code;
+use crate::code::{Code, peeled_order};
 use crate::on_code::Judged;
 use crate::oracle::{GF, InfoSet, NbCode, RATES, code_at, degrees_for};
+use crate::preferences;
 use crate::random::Random;
 
 /// The edges of each check: variable and coefficient.
@@ -15,22 +16,15 @@ pub fn rates() -> Vec<Judged> {
     for rate in RATES {
         for set in [InfoSet::Echelon, InfoSet::Peeled] {
             let built = code_at(rate, set);
+            let prefer = preferences::of_numbers(&degrees_for(rate));
             let code = match set {
                 InfoSet::Echelon => Code::of_new(built),
-                InfoSet::Peeled => Code::of(built, &peeled_order(built, &degrees_for(rate))),
+                InfoSet::Peeled => Code::of(built, &peeled_order(built, &prefer)),
             };
             all.push(accepted(format!("the code of {rate:?}, {set:?}"), code));
         }
     }
     all
-}
-
-/// The column order of `with_peeled_info`, which does not keep it: the positions that are not
-/// picked ascending, then the picks reversed.
-fn peeled_order(built: &NbCode, degrees: &[usize]) -> Vec<usize> {
-    let picks = built.peel_picks(|v| degrees[v] as i64);
-    let others = (0..built.n).filter(|v| !picks.contains(v));
-    others.chain(picks.iter().rev().copied()).collect()
 }
 
 /// Codes that `new` builds: some of the small ones, and those at the ends of what is allowed.
@@ -42,7 +36,8 @@ pub fn built() -> impl Iterator<Item = Judged> {
     })
 }
 
-fn accepted(name: String, code: Code) -> Judged {
+/// A code that must not be refused.
+pub fn accepted(name: String, code: Code) -> Judged {
     let judged = Judged::new(name, code);
     judged.built();
     judged
@@ -125,6 +120,12 @@ const ENDS: &[Shape] = &[
         256,
         |c, v| c == v || c == (v + 1) % 256,
         "a ring of 512 edges",
+    ),
+    (
+        256,
+        256,
+        |c, v| v == 0 || v == 1 + c % 255,
+        "256 checks of 2 variables, one in all",
     ),
     (2, 256, |_, _| true, "2 variables in 256 checks, 512 edges"),
     (256, 2, |_, _| true, "2 checks of 256 variables, 512 edges"),

@@ -1,8 +1,10 @@
 //! The parts that a call on a lent code is lent, each guarded, and what must stand in them after
 //! it.
 
-use crate::abi::{self, OnCode};
-use crate::code::{A, COEF, COL, Code, INFO, NAMES, ORDER, PARITY, ROW, START, VAR, narrowed};
+use crate::abi::{self, OnCode, OverCode};
+use crate::code::{
+    A, COEF, COL, Code, INFO, NAMES, ORDER, PARITY, RANK, ROW, START, VAR, narrowed,
+};
 use crate::filling::Filling;
 use crate::guarded::Guarded;
 use crate::on_code::{Answer, Call};
@@ -14,7 +16,8 @@ const NARROW: [usize; 2] = [COEF, A];
 
 /// A code and the work parts as they are lent to a call.
 pub struct LentCode {
-    numbers: [usize; 4],
+    sizes: [usize; 3],
+    rank: Guarded<usize>,
     wide: [Guarded<u16>; WIDE.len()],
     narrow: [Guarded<u8>; NARROW.len()],
     h: Guarded<u8>,
@@ -26,7 +29,8 @@ impl LentCode {
     pub fn new(code: &Code, [h, pivots]: [usize; 2], filling: &Filling) -> Self {
         let narrow = |part: usize| Guarded::new(&narrowed(&code.parts[part]), filling.narrow);
         Self {
-            numbers: [code.n, code.m, code.edges, code.rank],
+            sizes: [code.n, code.m, code.edges],
+            rank: Guarded::new(&[code.rank], filling.number),
             wide: WIDE.map(|part| Guarded::new(&code.parts[part], filling.wide)),
             narrow: NARROW.map(narrow),
             h: Guarded::new(&vec![filling.narrow; h], filling.narrow),
@@ -34,13 +38,14 @@ impl LentCode {
         }
     }
 
+    /// To a call that reads the code.
     fn lend(&mut self) -> OnCode<'_> {
-        let [n, m, edges, rank] = self.numbers;
+        let [n, m, edges] = self.sizes;
         OnCode {
             n,
             m,
             edges,
-            rank,
+            rank: *self.rank.lend_one(),
             wide: self.wide.each_mut().map(|part| &*part.lend()),
             narrow: self.narrow.each_mut().map(|part| &*part.lend()),
             h: self.h.lend(),
@@ -48,9 +53,40 @@ impl LentCode {
         }
     }
 
-    /// Every call leaves the code as it was, and 0 in the work parts; only numbers 2 and 3 leave
-    /// those as they were.
+    /// To a call that writes over the code.
+    fn lend_over(&mut self) -> OverCode<'_> {
+        let [n, m, edges] = self.sizes;
+        let [var, row, start, col, order, parity, info] = self.wide.each_mut().map(Guarded::lend);
+        let [coef, a] = self.narrow.each_mut().map(Guarded::lend);
+        OverCode {
+            n,
+            m,
+            edges,
+            rank: self.rank.lend_one(),
+            graph: [var, row, start, col],
+            coef,
+            encoder: [order, parity, info],
+            a,
+            h: self.h.lend(),
+            pivots: self.pivots.lend(),
+        }
+    }
+
+    /// Puts back what a call wrote over: rank and parts of a code of the same sizes.
+    pub fn put(&mut self, code: &Code) {
+        *self.rank.lend_one() = code.rank;
+        for (lent, part) in self.wide.iter_mut().zip(WIDE) {
+            lent.lend().copy_from_slice(&code.parts[part]);
+        }
+        for (lent, part) in self.narrow.iter_mut().zip(NARROW) {
+            lent.lend().copy_from_slice(&narrowed(&code.parts[part]));
+        }
+    }
+
+    /// A call leaves this code, and 0 in the work parts; only numbers 2 and 3 leave those as they
+    /// were.
     pub fn compare(&self, case: &mut Case, code: &Code, filling: &Filling, number: u8) {
+        self.rank.compare_one(case, NAMES[RANK], code.rank);
         for (lent, part) in self.wide.iter().zip(WIDE) {
             lent.compare(case, NAMES[part], &code.parts[part]);
         }
@@ -72,6 +108,7 @@ impl LentCode {
 /// it does not have are not lent to it.
 pub struct LentOwn {
     given: Guarded<u8>,
+    prefer: Guarded<i64>,
     found: Guarded<usize>,
     ok: Guarded<u8>,
     symbols: Guarded<u8>,
@@ -85,10 +122,12 @@ impl LentOwn {
             Call::Encode { word, .. } => (word, 0),
             Call::InfoOf { syms, .. } => (syms, 0),
             Call::InfoPositions { positions } => (0, positions),
+            Call::PeelPicks { picks, .. } => (0, picks),
             _ => (0, 0),
         };
         Self {
             given: Guarded::new(call.given(), filling.narrow),
+            prefer: Guarded::new(call.prefer(), filling.number as i64),
             found: Guarded::new(&[filling.number], filling.number),
             ok: Guarded::new(&[filling.narrow], filling.narrow),
             symbols: Guarded::new(&vec![filling.narrow; symbols], filling.narrow),
@@ -98,8 +137,11 @@ impl LentOwn {
 
     /// Makes the call, and gives its number.
     pub fn call(&mut self, call: &Call, code: &mut LentCode) -> u8 {
-        let on = code.lend();
-        let (given, found) = (self.given.lend(), self.found.lend_one());
+        let (given, prefer) = (self.given.lend(), self.prefer.lend());
+        if let Call::WithPeeledInfo { .. } = call {
+            return abi::with_peeled_info(code.lend_over(), prefer);
+        }
+        let (on, found) = (code.lend(), self.found.lend_one());
         let (symbols, positions) = (self.symbols.lend(), self.positions.lend());
         match *call {
             Call::Encode { .. } => abi::encode(on, given, symbols),
@@ -109,12 +151,15 @@ impl LentOwn {
             Call::K => abi::k(on, found),
             Call::N => abi::n(on, found),
             Call::InfoPositions { .. } => abi::info_positions(on, found, positions),
+            Call::PeelPicks { .. } => abi::peel_picks(on, prefer, found, positions),
+            Call::WithPeeledInfo { .. } => unreachable!("it writes over the code"),
         }
     }
 
     /// A call leaves what it reads as it was, and the answer in its outputs, or what was there.
     pub fn compare(&self, case: &mut Case, call: &Call, filling: &Filling, answer: &Answer) {
         self.given.compare(case, "symbols read", call.given());
+        self.prefer.compare(case, "preferences", call.prefer());
         let found = answer.found.unwrap_or(filling.number);
         self.found.compare_one(case, "number found", found);
         let ok = answer.ok.unwrap_or(filling.narrow);

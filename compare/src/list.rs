@@ -5,6 +5,7 @@
 
 use crate::field;
 use crate::graph;
+use crate::peeling_list;
 use crate::report::{Case, HeldTo, Tally};
 use crate::words_list;
 use std::fs;
@@ -26,6 +27,10 @@ const LISTS: &[List] = &[
     List {
         layer: "words",
         text: words_list::list,
+    },
+    List {
+        layer: "peeling",
+        text: peeling_list::list,
     },
 ];
 

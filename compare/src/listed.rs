@@ -97,7 +97,34 @@ const LISTED: &[(&str, Outcome, Call)] = &[
     ("checks_ok() of n 1, m 1", Outcome::Panics, || {
         one_edge().checks_ok(&[]).into()
     }),
+    ("peel_picks(0) of n 0, m 0", Outcome::Answers(0), || {
+        nothing().peel_picks(by(&[0])).len()
+    }),
+    ("peel_picks() of n 1, m 0", Outcome::Panics, || {
+        no_checks().peel_picks(by(&[])).len()
+    }),
+    ("peel_picks() of n 1, m 1", Outcome::Answers(0), || {
+        one_edge().peel_picks(by(&[])).len()
+    }),
+    (
+        "with_peeled_info(0) of n 0, m 0",
+        Outcome::Answers(0),
+        || nothing().with_peeled_info(by(&[0])).n,
+    ),
+    ("with_peeled_info() of n 1, m 0", Outcome::Panics, || {
+        no_checks().with_peeled_info(by(&[])).n
+    }),
+    (
+        "with_peeled_info() of n 1, m 1",
+        Outcome::Answers(1),
+        || one_edge().with_peeled_info(by(&[])).parity.len(),
+    ),
 ];
+
+/// A preference function that reads a list.
+fn by(prefer: &'static [i64]) -> impl Fn(usize) -> i64 {
+    |v| prefer[v]
+}
 
 fn nothing() -> NbCode {
     NbCode::new(0, 0, &[], 0)

@@ -5,6 +5,7 @@ mod abi;
 mod asked;
 mod calls;
 mod code;
+mod code_lists;
 mod codes;
 mod damage;
 mod field;
@@ -18,13 +19,18 @@ mod list;
 mod listed;
 mod on_code;
 mod oracle;
+mod peeling;
+mod peeling_list;
+mod preferences;
 mod random;
 mod refused;
 mod report;
 mod speed;
+mod ties;
 mod words;
 mod words_list;
 
+use on_code::Tallies;
 use std::process::ExitCode;
 
 fn main() -> ExitCode {
@@ -56,12 +62,13 @@ fn print_list(layer: &str) -> ExitCode {
 fn compare() -> ExitCode {
     let differences = field::compare()
         + graph::compare()
-        + words::compare()
+        + compare_on_codes()
         + listed::compare()
         + list::compare();
     field::measure();
     graph::measure();
     words::measure();
+    peeling::measure();
     if differences == 0 {
         println!("no differences");
         ExitCode::SUCCESS
@@ -69,4 +76,13 @@ fn compare() -> ExitCode {
         println!("DIFFERENCES: {differences}");
         ExitCode::FAILURE
     }
+}
+
+/// The calls on a lent code; gives the differences.
+fn compare_on_codes() -> u64 {
+    let mut tallies = Tallies::new();
+    words::compare(&mut tallies);
+    peeling::compare(&mut tallies);
+    refused::compare(&mut tallies);
+    tallies.finish()
 }

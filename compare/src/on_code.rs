@@ -6,6 +6,7 @@ use crate::judge::judged;
 use crate::lent_code::{LentCode, LentOwn};
 use crate::oracle::NbCode;
 use crate::report::{Case, HeldTo, Tally};
+use crate::ties::Ties;
 use std::fmt;
 
 /// A lent code: its name in a report, and what document 01 says of it.
@@ -44,10 +45,12 @@ pub enum Call {
     K,
     N,
     InfoPositions { positions: usize },
+    PeelPicks { prefer: Vec<i64>, picks: usize },
+    WithPeeledInfo { prefer: Vec<i64> },
 }
 
 /// The calls' names, in the order of the header.
-pub const CALLS: [&str; 7] = [
+pub const CALLS: [&str; 9] = [
     "encode",
     "info_of",
     "checks_ok",
@@ -55,6 +58,8 @@ pub const CALLS: [&str; 7] = [
     "k",
     "n",
     "info_positions",
+    "peel_picks",
+    "with_peeled_info",
 ];
 
 impl Call {
@@ -68,6 +73,8 @@ impl Call {
             Call::K => 4,
             Call::N => 5,
             Call::InfoPositions { .. } => 6,
+            Call::PeelPicks { .. } => 7,
+            Call::WithPeeledInfo { .. } => 8,
         }
     }
 
@@ -80,14 +87,24 @@ impl Call {
         }
     }
 
-    /// The lengths of its own parts that must be n: "words .. n", and the output parts, which
-    /// docs/PARTS.md gives that length. Information symbols for `encode` may have any.
+    /// The preferences that it reads.
+    pub fn prefer(&self) -> &[i64] {
+        match self {
+            Call::PeelPicks { prefer, .. } | Call::WithPeeledInfo { prefer } => prefer,
+            _ => &[],
+        }
+    }
+
+    /// The lengths of its own parts that must be n: "preferences, words .. n", and the output
+    /// parts, which docs/PARTS.md gives that length. Information symbols for `encode` may have any.
     fn lengths(&self) -> Vec<usize> {
         match self {
             Call::Encode { word, .. } => vec![*word],
             Call::InfoOf { word, syms } => vec![word.len(), *syms],
             Call::ChecksOk { word } => vec![word.len()],
             Call::InfoPositions { positions } => vec![*positions],
+            Call::PeelPicks { prefer, picks } => vec![prefer.len(), *picks],
+            Call::WithPeeledInfo { prefer } => vec![prefer.len()],
             Call::Degree { .. } | Call::K | Call::N => vec![],
         }
     }
@@ -99,7 +116,7 @@ impl Call {
             Call::Encode { syms, .. } => syms.len() > built.info.len(),
             Call::InfoOf { word, .. } | Call::ChecksOk { word } => word.iter().any(|&x| x > 31),
             Call::Degree { v } => *v >= built.n,
-            Call::K | Call::N | Call::InfoPositions { .. } => false,
+            _ => false,
         }
     }
 }
@@ -114,6 +131,8 @@ impl fmt::Display for Call {
             Call::Degree { v } => write!(f, "({v})"),
             Call::K | Call::N => Ok(()),
             Call::InfoPositions { positions } => write!(f, "(positions of {positions})"),
+            Call::PeelPicks { prefer, picks } => write!(f, "({prefer:?}, picks of {picks})"),
+            Call::WithPeeledInfo { prefer } => write!(f, "({prefer:?})"),
         }
     }
 }
@@ -136,6 +155,17 @@ pub struct Answer {
     pub ok: Option<u8>,
     pub symbols: Option<Vec<u8>>,
     pub positions: Option<Vec<u16>>,
+    /// The code, where it is written over.
+    pub code: Option<Code>,
+}
+
+impl Answer {
+    /// Positions at the front of a part of n, and how many they are.
+    fn set_positions(&mut self, positions: &[usize], n: usize) {
+        let narrow = positions.iter().map(|&position| position as u16).collect();
+        self.found = Some(positions.len());
+        self.positions = Some(padded(narrow, n));
+    }
 }
 
 impl<'a> Asked<'a> {
@@ -177,11 +207,11 @@ impl<'a> Asked<'a> {
             Call::Degree { v } => answer.found = Some(built.degree(*v)),
             Call::K => answer.found = Some(built.k()),
             Call::N => answer.found = Some(built.n()),
-            Call::InfoPositions { .. } => {
-                let positions = built.info_positions().iter().map(|&p| p as u16);
-                answer.found = Some(positions.len());
-                answer.positions = Some(padded(positions.collect(), built.n));
+            Call::InfoPositions { .. } => answer.set_positions(built.info_positions(), built.n),
+            Call::PeelPicks { prefer, .. } => {
+                answer.set_positions(&built.peel_picks(|v| prefer[v]), built.n);
             }
+            Call::WithPeeledInfo { prefer } => answer.code = Some(Code::peeled(built, prefer)),
         }
         answer
     }
@@ -189,6 +219,7 @@ impl<'a> Asked<'a> {
     /// The call with both fillings.
     fn compare(&self, tally: &mut Tally) {
         let (number, answer) = (self.number(), self.answer());
+        let left = answer.code.as_ref().unwrap_or(&self.on.code);
         let held_to = match number {
             0 => HeldTo::Rust,
             _ => HeldTo::Document,
@@ -198,7 +229,7 @@ impl<'a> Asked<'a> {
             let mut own = LentOwn::new(&self.call, filling);
             let mut case = Case::held_to(held_to);
             case.value("number", own.call(&self.call, &mut code), number);
-            code.compare(&mut case, &self.on.code, filling, number);
+            code.compare(&mut case, left, filling, number);
             own.compare(&mut case, &self.call, filling, &answer);
             tally.count(case, || {
                 format!("{self} with {} in each byte", filling.narrow)
@@ -237,16 +268,25 @@ fn padded<T: Clone + Default>(mut answer: Vec<T>, length: usize) -> Vec<T> {
     answer
 }
 
-/// The cases of each call.
-pub struct Tallies([Tally; CALLS.len()]);
+/// The cases of each call, and the ties among those of `peel_picks` that are not turned down.
+pub struct Tallies {
+    calls: [Tally; CALLS.len()],
+    ties: Ties,
+}
 
 impl Tallies {
     pub fn new() -> Self {
-        Self(CALLS.map(Tally::new))
+        Self {
+            calls: CALLS.map(Tally::new),
+            ties: Ties::default(),
+        }
     }
 
     pub fn ask(&mut self, asked: &Asked) {
-        asked.compare(&mut self.0[asked.call.index()]);
+        asked.compare(&mut self.calls[asked.call.index()]);
+        if let (Call::PeelPicks { prefer, .. }, 0) = (&asked.call, asked.number()) {
+            self.ties.count(asked.on.built(), prefer);
+        }
     }
 
     pub fn ask_all(&mut self, on: &Judged, calls: Vec<Call>) {
@@ -257,6 +297,8 @@ impl Tallies {
 
     /// Prints each call's line and gives the differences of all.
     pub fn finish(self) -> u64 {
-        self.0.into_iter().map(Tally::finish).sum()
+        let differences = self.calls.into_iter().map(Tally::finish).sum();
+        self.ties.finish();
+        differences
     }
 }

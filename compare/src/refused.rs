@@ -88,26 +88,41 @@ fn compare_own_lengths(tallies: &mut Tallies, on: &Judged, calls: &[Call]) {
 
 /// The call with another length of each of its own parts that have one to keep.
 fn with_own_length(call: &Call, length: usize) -> Vec<Call> {
-    let resized = |word: &Vec<u8>| {
-        let mut word = word.clone();
-        word.resize(length, 31);
-        word
-    };
     match call.clone() {
         Call::Encode { syms, .. } => vec![Call::Encode { syms, word: length }],
         Call::InfoOf { word, syms } => vec![
             Call::InfoOf {
-                word: resized(&word),
+                word: resized(&word, length, 31),
                 syms,
             },
             Call::InfoOf { word, syms: length },
         ],
         Call::ChecksOk { word } => vec![Call::ChecksOk {
-            word: resized(&word),
+            word: resized(&word, length, 31),
         }],
         Call::InfoPositions { .. } => vec![Call::InfoPositions { positions: length }],
+        Call::PeelPicks { prefer, picks } => vec![
+            Call::PeelPicks {
+                prefer: resized(&prefer, length, 0),
+                picks,
+            },
+            Call::PeelPicks {
+                prefer,
+                picks: length,
+            },
+        ],
+        Call::WithPeeledInfo { prefer } => vec![Call::WithPeeledInfo {
+            prefer: resized(&prefer, length, 0),
+        }],
         Call::Degree { .. } | Call::K | Call::N => vec![],
     }
+}
+
+/// Another length, what is more being `rest`.
+fn resized<T: Clone>(part: &[T], length: usize, rest: T) -> Vec<T> {
+    let mut part = part.to_vec();
+    part.resize(length, rest);
+    part
 }
 
 /// Every change of one of the four numbers, with all calls.

@@ -18,12 +18,22 @@ pub fn time_both(name: &str, count: usize, mut ours: impl FnMut(), mut rust: imp
 /// spell of the machine meets all of them, and in another order each time, so that what one leaves
 /// to the next, in caches and predictions, meets all of them too.
 pub fn best_times<const N: usize>(rounds: usize, works: [&mut dyn FnMut(); N]) -> [f64; N] {
+    best_times_after(rounds, &mut || {}, works)
+}
+
+/// The same, with something to be done before each piece of work that is not timed.
+pub fn best_times_after<const N: usize>(
+    rounds: usize,
+    prepare: &mut dyn FnMut(),
+    works: [&mut dyn FnMut(); N],
+) -> [f64; N] {
     let mut random = Random::new();
     let mut turns: [usize; N] = from_fn(|i| i);
     let mut best = [f64::INFINITY; N];
     for _ in 0..rounds {
         random.shuffle(&mut turns);
         for i in turns {
+            prepare();
             best[i] = best[i].min(nanoseconds(works[i]));
         }
     }
@@ -36,6 +46,39 @@ pub fn print_ratio(name: &str, ours: f64, rust: f64) {
         "{name}: {:.2} of the Rust's time (ns each: ours {ours:.2}, Rust {rust:.2})",
         ours / rust,
     );
+}
+
+/// The time of the test of a lent code, which calls on one make and the Rust does not.
+pub struct Test {
+    time: f64,
+    unsure: f64,
+    times: usize,
+}
+
+impl Test {
+    /// From the best times of calls that are little else than the test.
+    pub fn new(times: &[f64]) -> Self {
+        let [least, most] = [f64::min, f64::max].map(|f| times.iter().copied().reduce(f).unwrap());
+        Self {
+            time: times.iter().sum::<f64>() / times.len() as f64,
+            unsure: most - least,
+            times: times.len(),
+        }
+    }
+
+    /// Prints a call beside the Rust's: the whole call, and without the test.
+    pub fn print_ratios(&self, name: &str, sizes: &str, ours: f64, rust: f64) {
+        print_ratio(&format!("{name}, {sizes}"), ours, rust);
+        let name = format!("{name} without the test, {sizes}");
+        print_ratio(&name, ours - self.time, rust);
+    }
+
+    pub fn print_unsure(&self) {
+        println!(
+            "  the test, timed {} times, is unsure by {:.0} ns",
+            self.times, self.unsure
+        );
+    }
 }
 
 fn nanoseconds(work: &mut dyn FnMut()) -> f64 {

@@ -9,19 +9,17 @@ use crate::lent_code::{LentCode, LentOwn};
 use crate::on_code::{Asked, Call, Judged, Tallies, WORK};
 use crate::oracle::NbCode;
 use crate::random::Random;
-use crate::refused;
-use crate::speed::{best_times, print_ratio};
+use crate::speed::{Test, best_times, print_ratio};
 use std::cell::RefCell;
 use std::hint::black_box;
 
 /// So many draws of words for each code of the four rates.
 const RATE_DRAWS: usize = 20;
 
-/// All comparisons of this layer; gives the differences.
-pub fn compare() -> u64 {
-    let mut tallies = Tallies::new();
+/// All comparisons of this layer but the calls that are turned down.
+pub fn compare(tallies: &mut Tallies) {
     let mut random = Random::new();
-    compare_starred(&mut tallies);
+    compare_starred(tallies);
     for on in codes::small() {
         tallies.ask_all(&on, every_call(&mut random, on.built()));
         tallies.ask_all(&on, bad_symbols(&mut random, on.built()));
@@ -37,8 +35,6 @@ pub fn compare() -> u64 {
     for on in codes::built().chain(codes::any()) {
         tallies.ask_all(&on, some_calls(&mut random, on.built()));
     }
-    refused::compare(&mut tallies);
-    tallies.finish()
 }
 
 /// Document 01's value: "n = 3, m = 0: symbols 5, 37, 255 encode to 5, 5, 31".
@@ -131,9 +127,7 @@ fn measure_code(on: &Judged) {
             },
         ],
     );
-    let tests = &best[..4];
-    let test = tests.iter().sum::<f64>() / tests.len() as f64;
-    let [least, most] = [f64::min, f64::max].map(|f| tests.iter().copied().reduce(f).unwrap());
+    let test = Test::new(&best[..4]);
     let [k, .., encode, checks_ok, build, rust_encode, rust_checks_ok] = best;
 
     let sizes = format!("{n} variables and {m} checks");
@@ -143,17 +137,7 @@ fn measure_code(on: &Judged) {
         ("checks_ok", checks_ok, rust_checks_ok),
     ];
     for (name, ours, rust) in timed {
-        let rust = rust / TURNS as f64;
-        print_ratio(&format!("{name}, {sizes}"), ours, rust);
-        print_ratio(
-            &format!("{name} without the test, {sizes}"),
-            ours - test,
-            rust,
-        );
+        test.print_ratios(name, &sizes, ours, rust / TURNS as f64);
     }
-    println!(
-        "  the test, timed {} times, is unsure by {:.0} ns",
-        tests.len(),
-        most - least
-    );
+    test.print_unsure();
 }

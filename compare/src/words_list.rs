@@ -1,14 +1,16 @@
-//! The fixed list of the calls on a lent code.
+//! The fixed list of the calls on words of a lent code.
 
 use crate::asked::{self, Row, SEED};
-use crate::code::{A, COEF, COL, Code, EDGES, INFO, M, N, ORDER, PARITY, RANK, ROW, START, VAR};
-use crate::damage::{Change, changed};
-use crate::list::digest;
-use crate::on_code::{Asked, CALLS, Call, Judged};
+use crate::code::{A, COEF, COL, EDGES, INFO, M, N, ORDER, PARITY, RANK, ROW, START, VAR};
+use crate::code_lists::{
+    CODE_HEAD, CodeOfLine, DIGEST_HEAD, HIGH, LONELY, MIDDLE, NO_CHECKS, NO_SPACE, NO_VARIABLES,
+    NOTHING, ONE, TABLE, damage, write_line,
+};
+use crate::damage::Change;
+use crate::on_code::Call;
 use crate::oracle::{NbCode, mix};
-use std::fmt::Write;
 
-const LIST_HEAD: &str = "\
+const CALLS_HEAD: &str = "\
 # encode CODE DAMAGE COUNT DRAWS LIMIT NUMBER WORD
 # info_of CODE DAMAGE COUNT DRAWS LIMIT PLACE CHANGE NUMBER K SYMS
 # checks_ok CODE DAMAGE COUNT DRAWS LIMIT PLACE CHANGE NUMBER OK
@@ -16,15 +18,14 @@ const LIST_HEAD: &str = "\
 # k CODE DAMAGE NUMBER K
 # n CODE DAMAGE NUMBER SYMBOLS
 # info_positions CODE DAMAGE NUMBER K POSITIONS
-# CODE is N M HEAVY DEGREE LIGHT SEED: the code that `new` builds, the first HEAVY of N variables having DEGREE, the others LIGHT.
-# DAMAGE is PART INDEX VALUE: after the build, entry INDEX of a part becomes VALUE. PART 1 to 9 is var, coef, row, start, col,
-# order, parity, info and a; 10 to 13 is the number n, m, edges and rank, INDEX being 0; 0 is no damage, INDEX and VALUE being 0.
+";
+
+const LIST_HEAD: &str = "\
 # COUNT symbols are given to `encode`: the first draws of SplitMix64 from DRAWS, each mod LIMIT, which is 1 to 256.
 # The word that info_of and checks_ok read is what `encode` answers to them before the damage, its symbol at PLACE then
 # xored with CHANGE; nothing is changed where CHANGE is 0. WORD, SYMS and POSITIONS are parts of N entries.
 # NUMBER is the refusal's, by document 01, 0 for none. K, OK, DEGREE and SYMBOLS are 0 where a call is turned down.
 # Before a call every entry of every output and work part is 1.
-# For a part its digest is listed, over all its entries: from 0 on, d becomes (17 d + (entry mod 65521) + 1) mod 65521.
 ";
 
 /// Symbols to give to `encode`: how many, the seed of their draws, and what these are taken modulo.
@@ -54,22 +55,6 @@ use Asks::{ChecksOk, Degree, Encode, InfoOf, InfoPositions};
 const SAME: Xored = Xored(0, 0);
 
 const NO_SYMBOLS: Drawn = Drawn(0, 0, 1);
-
-const fn damage(part: usize, entry: usize, value: usize) -> Option<Change> {
-    Some(Change::new(part, entry, value))
-}
-
-/// Nothing at all; no variables; no checks; a variable in a check; more checks than variables;
-/// variables without edges; a middle one; the greatest table; and no information positions.
-const NOTHING: Row = (0, 0, 0, 0, 0);
-const NO_VARIABLES: Row = (0, 3, 0, 0, 0);
-const NO_CHECKS: Row = (3, 0, 0, 0, 0);
-const ONE: Row = (1, 1, 1, 1, 0);
-const HIGH: Row = (4, 8, 4, 2, 0);
-const LONELY: Row = (12, 6, 3, 0, 2);
-const MIDDLE: Row = (20, 10, 4, 5, 2);
-const TABLE: Row = (256, 128, 0, 0, 2);
-const NO_SPACE: Row = (256, 256, 256, 2, 0);
 
 /// The lines beside those of the four rates.
 const LINES: &[Line] = &[
@@ -190,7 +175,7 @@ const OF_RATES: [Asks; 7] = [
 
 /// This layer's fixed list, by the original alone where a call is not turned down.
 pub fn list() -> String {
-    let mut text = String::from(LIST_HEAD);
+    let mut text = [CALLS_HEAD, CODE_HEAD, LIST_HEAD, DIGEST_HEAD].concat();
     for row in asked::RATES {
         for asks in OF_RATES {
             list_line(&mut text, (row, SEED, None, asks));
@@ -203,25 +188,8 @@ pub fn list() -> String {
 }
 
 fn list_line(text: &mut String, (row, seed, damage, asks): Line) {
-    let (n, m, heavy, degree, light) = row;
-    let build = asked::Asked::of_row(row, seed);
-    let built = NbCode::new(n, m, &build.degrees, seed);
-    let on = Judged::new("a listed code".to_string(), Code::of_new(&built));
-    let on = changed(&on, damage.as_slice());
-    let asked = Asked::new(&on, call(&built, asks));
-
-    write!(text, "{} ", CALLS[asked.call.index()]).unwrap();
-    write!(text, "{n} {m} {heavy} {degree} {light} {seed}").unwrap();
-    match damage {
-        None => write!(text, " 0 0 0").unwrap(),
-        Some(Change { part, entry, value }) => {
-            write!(text, " {} {entry} {value}", part + 1).unwrap()
-        }
-    }
-    for number in arguments(asks).into_iter().chain(answers(&asked)) {
-        write!(text, " {number}").unwrap();
-    }
-    text.push('\n');
+    let code = CodeOfLine::new(row, seed, damage);
+    write_line(text, &code, call(&code.built, asks), &arguments(asks));
 }
 
 /// The call, with parts of the n that the code was built with.
@@ -273,26 +241,4 @@ fn arguments(asks: Asks) -> Vec<u64> {
         Degree(v) => vec![v as u64],
         Asks::K | Asks::N | InfoPositions => vec![],
     }
-}
-
-/// The number and what the call leaves in its outputs, in which every entry was 1.
-fn answers(asked: &Asked) -> Vec<u64> {
-    let answer = asked.answer();
-    let found = answer.found.unwrap_or(0) as u64;
-    let symbols = |n| {
-        let symbols = answer.symbols.clone().unwrap_or(vec![1; n]);
-        digest(symbols.into_iter().map(u64::from))
-    };
-    let positions = |n| {
-        let positions = answer.positions.clone().unwrap_or(vec![1; n]);
-        digest(positions.into_iter().map(u64::from))
-    };
-    let left = match asked.call {
-        Call::Encode { word, .. } => vec![symbols(word)],
-        Call::InfoOf { syms, .. } => vec![found, symbols(syms)],
-        Call::ChecksOk { .. } => vec![answer.ok.unwrap_or(0).into()],
-        Call::Degree { .. } | Call::K | Call::N => vec![found],
-        Call::InfoPositions { positions: n } => vec![found, positions(n)],
-    };
-    [&[asked.number().into()], &left[..]].concat()
 }

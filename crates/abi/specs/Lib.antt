@@ -6,3 +6,4 @@ pub mod EvenDegrees
 pub mod NewCode
 pub mod OnCode
 pub mod ChecksOk
+pub mod WithPeeledInfo

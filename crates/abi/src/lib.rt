@@ -16,6 +16,7 @@ use graph::Answer;
 use graph::NewCode;
 
 mod on_code;
+mod peeling_calls;
 
 #[no_mangle]
 pub extern "C" fn hazgunek_mul(a: u8, b: u8, product: &mut u8) -> u8

@@ -2,7 +2,7 @@
 ghost use mathlib.Core.Path.{_≡_};
 ghost use Rattle.lists.specs.Choice.{pick};
 ghost use Rattle.graph.specs.Parts.{lent};
-ghost use Rattle.graph.specs.LentCode.{lentMatrix};
+ghost use Rattle.lent.specs.LentCode.{lentMatrix};
 ghost use Rattle.words.specs.Encode.{encode};
 ghost use Rattle.words.specs.InfoOf.{infoOf};
 ghost use Rattle.words.specs.ChecksOk.{checksOk};

@@ -1,1 +1,2 @@
-// No code: how a call is turned down and what it leaves in each kind of lent part (specs/), and the laws that each call's proof cites (proofs/).
+// How a call is turned down and what it leaves in each kind of lent part (specs/), the laws that each call's proof cites (proofs/), and the code that clears a part.
+pub mod clear;

@@ -3,20 +3,15 @@
 use Prim.Native.Nat.{ℕ}
 use mathlib.Core.Path.{_≡_, ap, _∙_}
 use mathlib.Core.List.{List}
-use mathlib.Core.Logic.{⊎-elim}
 use native.Mathlib.Omega.{arith}
-use lib.ListN.{length, replicate, length-replicate, getD-replicate, List·getD-eq-default}
+use lib.ListN.{length, replicate, length-replicate}
 use Rattle.lists.specs.Entry.{nth}
-use Rattle.lists.proofs.Cases.{less-or-not}
+use Rattle.lists.proofs.Blank.{blank-at}
 use Rattle.growth.specs.Rows.{Table}
-
-blank-at : (n k : ℕ) → nth (replicate n 0) k ≡ 0
-blank-at n k =
-    ⊎-elim (λ h. getD-replicate n k 0 0 h) (λ h. List·getD-eq-default (replicate n 0) 0 (omega (arith, length-replicate {A = ℕ} n 0))) (less-or-not k n)
 
 module _ (cells counts : List ℕ) (k : ℕ) (cleared : counts ≡ replicate k 0) where
   pub blank-counts : (r : ℕ) → nth counts r ≡ 0
-  blank-counts r = ap (λ (l : List ℕ). nth l r) cleared ∙ blank-at k r
+  blank-counts r = ap (λ (l : List ℕ). nth l r) cleared ∙ blank-at k r 0
 
   pub blank-table : length cells ≡ 65536 → k ≡ 256 → Table cells counts
   blank-table w e = record {

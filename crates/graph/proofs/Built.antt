@@ -11,7 +11,7 @@ use Rattle.lists.specs.Chain.{chain, startOf}
 use Rattle.lists.proofs.Values.{values-length, values-at, values-ext, values-own, map-values}
 use Rattle.lists.specs.Total.{total}
 use Rattle.lists.proofs.Chain.{chain-ext, map-chain, chain-values, chain-length, start-is, start-lengths}
-use Rattle.graph.specs.Graph.{Edge, checkCount, check, edges}
+use Rattle.elimination.specs.Graph.{Edge, checkCount, check, edges}
 use Rattle.graph.specs.Parts.{variables, coefficients, rowStarts, places, columns, columnStarts}
 use Rattle.growth.specs.Adjacency.{empty}
 use Rattle.growth.specs.Growth.{Growth, grown}

@@ -18,13 +18,13 @@ use Rattle.lists.proofs.Times.{times-has, times-chain, total-times}
 use Rattle.lists.proofs.Values.{values-at}
 use Rattle.calls.specs.Parts.{padded}
 use Rattle.field.specs.SplitMix64.{draw, after}
-use Rattle.graph.specs.Graph.{Edge, Graph, checkCount, check, edges}
+use Rattle.elimination.specs.Graph.{Edge, Graph, checkCount, check, edges}
 use Rattle.graph.specs.Parts.{variables, coefficients, places}
 use Rattle.graph.specs.Coefficients.{coefficient}
-use Rattle.graph.specs.Matrix.{matrixOf}
-use Rattle.graph.specs.Elimination.{reduced}
-use Rattle.graph.specs.Held.{held}
-use Rattle.graph.specs.Encodable.{Encodable}
+use Rattle.elimination.specs.Matrix.{matrixOf}
+use Rattle.elimination.specs.Elimination.{reduced}
+use Rattle.elimination.specs.Held.{held}
+use Rattle.elimination.specs.Encodable.{Encodable}
 use Rattle.graph.specs.Descending.{descending}
 use Rattle.graph.specs.Built.{built}
 use Rattle.graph.specs.Buildable.{Buildable}
@@ -32,9 +32,9 @@ use Rattle.growth.proofs.Grown.{GrownWell}
 use Rattle.graph.proofs.Places.{places-times}
 use Rattle.graph.proofs.Built.{growth, grownChk, built-n, built-m, built-check, built-variables, built-coefficients, built-count, built-well, grown-total, weighted-at, weighted-length}
 use Rattle.graph.proofs.Descending.{descending-length, descending-once}
-use Rattle.graph.proofs.Entries.{Small}
-use Rattle.graph.proofs.Eliminated.{Eliminated}
-use Rattle.graph.proofs.Reduced.{reduced-is}
+use Rattle.elimination.proofs.Entries.{Small}
+use Rattle.elimination.proofs.Eliminated.{Eliminated}
+use Rattle.elimination.proofs.Reduced.{reduced-is}
 use Rattle.graph.proofs.Proper.{Proper, vars-long, varPart, coefPart, rowPart, parts-encodable, parts-reduced}
 
 coefficient-lt : (s e : ℕ) → coefficient s e < 32

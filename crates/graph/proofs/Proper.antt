@@ -14,19 +14,19 @@ use Rattle.lists.proofs.EachOnce.{eachOnce-ext}
 use Rattle.lists.proofs.Values.{values-length, values-at}
 use Rattle.calls.specs.Parts.{padded}
 use Rattle.calls.proofs.Parts.{Padded, padded-is}
-use Rattle.graph.specs.Graph.{Edge, Graph, checkCount, check, edges}
-use Rattle.graph.specs.Matrix.{matrixOf}
-use Rattle.graph.specs.Elimination.{State, reduced, infos}
-use Rattle.graph.specs.Parts.{variables, coefficients, rowStarts, places, columns, columnStarts, table}
-use Rattle.graph.specs.Held.{held}
-use Rattle.graph.specs.Encodable.{Encodable}
+use Rattle.elimination.specs.Graph.{Edge, Graph, checkCount, check, edges}
+use Rattle.elimination.specs.Matrix.{matrixOf}
+use Rattle.elimination.specs.Elimination.{State, reduced, infos, table}
+use Rattle.graph.specs.Parts.{variables, coefficients, rowStarts, places, columns, columnStarts}
+use Rattle.elimination.specs.Held.{held}
+use Rattle.elimination.specs.Encodable.{Encodable}
 use Rattle.graph.proofs.RowStarts.{rows-last, edge-inside, coefficient-at}
 use Rattle.graph.proofs.Places.{places-all}
 use Rattle.graph.proofs.Held.{held-is}
-use Rattle.graph.proofs.Entries.{Small}
-use Rattle.graph.proofs.Eliminated.{Eliminated}
-use Rattle.graph.proofs.Infos.{infos-count, rank-columns, table-fits}
-use Rattle.graph.proofs.Reduced.{reduced-is, reduced-order}
+use Rattle.elimination.proofs.Entries.{Small}
+use Rattle.elimination.proofs.Eliminated.{Eliminated}
+use Rattle.elimination.proofs.Infos.{infos-count, rank-columns, table-fits}
+use Rattle.elimination.proofs.Reduced.{reduced-is, reduced-order}
 
 pub record Proper (g : Graph) : Type 0 where
   pub n-small : g .n ≤ 256

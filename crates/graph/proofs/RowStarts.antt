@@ -7,7 +7,7 @@ use lib.ListN.{length, getD, List·getD-map}
 use Rattle.lists.specs.Chain.{startOf}
 use Rattle.lists.specs.Entry.{nth}
 use Rattle.lists.proofs.Chain.{start-none, start-up, start-is, start-part, chain-at}
-use Rattle.graph.specs.Graph.{Edge, Graph, checkCount, check, edges}
+use Rattle.elimination.specs.Graph.{Edge, Graph, checkCount, check, edges}
 use Rattle.graph.specs.Parts.{variables, coefficients}
 
 module _ (g : Graph) where

@@ -5,7 +5,7 @@ use mathlib.Core.List.{List}
 use Rattle.lists.specs.Entry.{nth}
 use Rattle.lists.specs.Values.{values}
 use Rattle.lists.specs.Chain.{startOf}
-use Rattle.graph.specs.Graph.{Edge, Graph}
+use Rattle.elimination.specs.Graph.{Edge, Graph}
 use Rattle.growth.specs.Adjacency.{empty}
 use Rattle.growth.specs.Growth.{Growth, grown}
 use Rattle.graph.specs.Coefficients.{weighted}

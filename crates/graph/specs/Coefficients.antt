@@ -6,7 +6,7 @@ use lib.ListN.{length}
 use Rattle.lists.specs.Entry.{nth}
 use Rattle.lists.specs.Values.{values}
 use Rattle.field.specs.SplitMix64.{draw, after}
-use Rattle.graph.specs.Graph.{Edge}
+use Rattle.elimination.specs.Graph.{Edge}
 
 -- of the edge numbered e, from the generator's state s before all of them
 abbrev pub coefficient : ℕ → ℕ → ℕ

@@ -15,8 +15,8 @@ use Rattle.graph.specs.declared.Code.{Code}
 use Rattle.graph.specs.declared.NewCode.{NewCode}
 use Rattle.graph.specs.declared.NewCode.the-variants.{Built, Refused}
 use Rattle.graph.specs.Sizes.{tooLarge, codeLengths}
-use Rattle.graph.specs.Graph.{Graph, checkCount, edges}
-use Rattle.graph.specs.Elimination.{reduced}
+use Rattle.elimination.specs.Graph.{Graph, checkCount, edges}
+use Rattle.elimination.specs.Elimination.{reduced}
 use Rattle.graph.specs.Parts.{Parts, parts}
 use Rattle.graph.specs.Descending.{descending}
 use Rattle.graph.specs.Built.{built}

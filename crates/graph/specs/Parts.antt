@@ -2,7 +2,7 @@
 -- nb.rs, `NbCode`.
 -- Assumes nothing.
 use Prim.Native.Nat.{ℕ, _+_}
-use mathlib.Core.List.{List, map}
+use mathlib.Core.List.{List, [], map}
 use lib.Dec.{eqb}
 use lib.ListN.{length}
 use denote.Ref.{RefT, now}
@@ -11,8 +11,8 @@ use Rattle.lists.specs.Values.{values}
 use Rattle.lists.specs.Chain.{chain, startOf}
 use Rattle.lists.specs.Keep.{keepBelow}
 use Rattle.calls.specs.Parts.{padded}
-use Rattle.graph.specs.Graph.{Edge, Graph, checkCount, check, edges}
-use Rattle.graph.specs.Elimination.{State, reduced, infos}
+use Rattle.elimination.specs.Graph.{Edge, Graph, checkCount, check, edges}
+use Rattle.elimination.specs.Elimination.{reduced, infos, table}
 
 -- the variable of each edge, and its coefficient
 abbrev pub variables : Graph → List ℕ
@@ -36,10 +36,6 @@ columns g = chain (g .n) (places (variables g))
 abbrev pub columnStarts : Graph → List ℕ
 columnStarts g = values (g .n + 1) (startOf (places (variables g)))
 
--- the table: for each pivot the factors of the information symbols
-unfoldable pub table : ℕ → State → List ℕ
-table n s = chain (s .rank) (λ i. map (s .matrix i) (infos n s))
-
 pub record Parts : Type 0 where
   pub var : List ℕ
   pub coef : List ℕ
@@ -56,15 +52,32 @@ abbrev pub lent : RefT (List ℕ) → RefT (List ℕ) → RefT (List ℕ) → Re
 lent var coef row start col order parity info a =
     record { var = now var; coef = now coef; row = now row; start = now start; col = now col; order = now order; parity = now parity; info = now info; a = now a }
 
-unfoldable pub parts : Graph → List ℕ → Parts
-parts g order = record {
-  var = padded 512 0 (variables g);
-  coef = padded 512 0 (coefficients g);
-  row = padded 257 0 (rowStarts g);
-  start = padded 257 0 (columnStarts g);
-  col = padded 512 0 (columns g);
+-- the parts of a code in another column order: parity, information and table as elimination gives them, the graph's parts as they are
+abbrev pub ordered : Graph → List ℕ → Parts → Parts
+ordered g order p = record {
+  var = p .var;
+  coef = p .coef;
+  row = p .row;
+  start = p .start;
+  col = p .col;
   order = padded 256 0 order;
   parity = padded 256 0 (values (reduced g order .rank) (reduced g order .pivot));
   info = padded 256 0 (infos (g .n) (reduced g order));
   a = padded 16384 0 (table (g .n) (reduced g order));
 }
+
+-- of a graph and a column order
+unfoldable pub parts : Graph → List ℕ → Parts
+parts g order =
+    ordered g order
+    (record {
+      var = padded 512 0 (variables g);
+      coef = padded 512 0 (coefficients g);
+      row = padded 257 0 (rowStarts g);
+      start = padded 257 0 (columnStarts g);
+      col = padded 512 0 (columns g);
+      order = [];
+      parity = [];
+      info = [];
+      a = [];
+    })

@@ -2,16 +2,16 @@
 ghost use mathlib.Core.Path.{_≡_};
 ghost use lib.ListN.{length, replicate};
 ghost use Rattle.lists.specs.Laid.{laid};
-ghost use Rattle.graph.specs.Graph.{edges};
+ghost use Rattle.elimination.specs.Graph.{edges};
 ghost use Rattle.graph.specs.Parts.{Parts, parts, lent, variables, coefficients, rowStarts, columns, columnStarts};
 ghost use Rattle.graph.specs.Descending.{descending};
 ghost use Rattle.graph.specs.Built.{built};
 ghost use Rattle.graph.specs.New.{numbers, lentWork};
 ghost use Rattle.graph.specs.Buildable.{Buildable, PartsFit, WorkFits};
 use crate::Code;
-use crate::clear;
 use crate::edges;
-use crate::encoder;
+use calls::clear;
+use elimination::encoder;
 
 // Every entry of the work parts 0.
 pub fn clear_work(chk: &mut [u8], load: &mut [u16], own: &mut [u8], deg: &mut [u16])

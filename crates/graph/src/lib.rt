@@ -1,20 +1,13 @@
-// Codes: building one, and testing one that is lent (`lent`). The public calls of document 01's part 2 stand here; each is turned down by number and leaves its lent parts as its definition says.
+// Codes and the building of one. The public calls of document 01's part 2 stand here; each is turned down by number and leaves its lent parts as its definition says.
 ghost use mathlib.Core.Path.{_≡_};
 ghost use Rattle.graph.specs.EvenDegrees.{EvenDegrees, evenDegrees};
 ghost use Rattle.graph.specs.Parts.{lent};
 ghost use Rattle.graph.specs.New.{New, newCode, lentWork};
 
 mod build;
-pub mod clear;
 mod degrees;
 mod edges;
-mod elimination;
-mod encoder;
-pub mod lent;
-mod malformed;
-mod matrix_rows;
-mod misencoded;
-mod refusals;
+pub mod refusals;
 
 // The numbers of a code; its parts are lent beside them.
 pub struct Code {

@@ -44,3 +44,7 @@ either false b e = inr e
 pub and-parts : (a b : Bool) → T (a && b) → T a × T b
 and-parts true b t = (tt, t)
 and-parts false b t = absurd t
+
+pub both : (a b : Bool) → (a && b) ≡ true → (a ≡ true) × (b ≡ true)
+both true b e = (refl, e)
+both false b e = (e, cc)

@@ -39,3 +39,11 @@ pub iter-part {ℓ ℓ′} : {S : Type ℓ} {P : Type ℓ′} (part : S → P) (
 unfolding iter
 iter-part part zero f g s e = refl
 iter-part part (suc n) f g s e = e n (le-refl (suc n)) (iter n f s) ∙ ap (g n) (iter-part part n f g s (λ k h t. e k (omega arith) t))
+
+-- turns that agree on the states that each turn leads to
+pub iter-agree {ℓ ℓ′} : {S : Type ℓ} (P : S → Type ℓ′) (n : ℕ) (f g : ℕ → S → S) (s : S) → P s → ((k : ℕ) → k < n → (t : S) → P t → P (f k t)) → ((k : ℕ) → k < n → (t : S) → P t → f k t ≡ g k t) → iter n f s ≡ iter n g s
+unfolding iter
+iter-agree P zero f g s p keeps same = refl
+iter-agree P (suc n) f g s p keeps same =
+    same n (le-refl (suc n)) (iter n f s) (iter-keeps (λ _. P) n f s p (λ k h t q. keeps k (omega arith) t q))
+    ∙ ap (g n) (iter-agree P n f g s p (λ k h t q. keeps k (omega arith) t q) (λ k h t q. same k (omega arith) t q))

@@ -2,7 +2,7 @@
 -- Assumes nothing.
 use Prim.Native.Nat.{ℕ, zero, suc, _+_, _<_, _≤_}
 use mathlib.Core.Path.{_≡_, refl, ap, sym, _∙_}
-use mathlib.Core.Bool.{Bool, true, false, not}
+use mathlib.Core.Bool.{Bool, true, false, not, _&&_}
 use mathlib.Core.List.{List, [], _∷_, _++_, append-assoc, append-nil}
 use mathlib.Core.Logic.{⊎-elim, _⊎_}
 use native.Mathlib.Nat.{not-suc-le-zero, le-of-suc-le-suc, le-of-lt, le-refl, le-step, eq-or-lt-of-le}
@@ -170,3 +170,54 @@ keepBelow-split test (suc m) =
     let b = ap length (keepBelow-yes (λ j. not (test j)) m (ap not n)) ∙ length-append others (m ∷ []) in
     omega arith)
     (true-or-false (test m))
+
+-- ---- the entries of a list that pass
+
+module _ (test : ℕ → Bool) where
+  pub keep-yes : (x : ℕ) (l : List ℕ) → test x ≡ true → keep test (x ∷ l) ≡ x ∷ keep test l
+  unfolding keep
+  keep-yes x l t = ap (λ (a : List ℕ). a ++ keep test l) (pick-true (test x) (x ∷ []) [] t)
+
+  pub keep-no : (x : ℕ) (l : List ℕ) → test x ≡ false → keep test (x ∷ l) ≡ keep test l
+  unfolding keep
+  keep-no x l t = ap (λ (a : List ℕ). a ++ keep test l) (pick-false (test x) (x ∷ []) [] t)
+
+  -- where all pass
+  pub keep-all : ((x : ℕ) → test x ≡ true) → (l : List ℕ) → keep test l ≡ l
+  unfolding keep
+  keep-all e [] = refl
+  keep-all e (x ∷ l) = keep-yes x l (e x) ∙ ap (λ (a : List ℕ). x ∷ a) (keep-all e l)
+
+  -- an entry of the list that passes
+  abbrev pub Passed : List ℕ → ℕ → Type 0
+  Passed l x = (test x ≡ true) × ((u : ℕ) × (u < length l) × (getD l u 0 ≡ x))
+
+  later : (y x : ℕ) (l : List ℕ) → Passed l x → Passed (y ∷ l) x
+  later y x l r = (r .0, (suc (r .1 .0), omega (arith, r .1 .1), r .1 .2))
+
+  pub keep-passes : (l : List ℕ) (t : ℕ) → t < length (keep test l) → Passed l (getD (keep test l) t 0)
+  unfolding keep
+  keep-passes [] t h = absurd (not-suc-le-zero h)
+  keep-passes (x ∷ l) zero h =
+      ⊎-elim
+      (λ y. rw (keep-yes x l y) (y, (0, omega arith, refl)))
+      (λ n. rw (keep-no x l n) (later x (getD (keep test l) 0 0) l (keep-passes l 0 (rw (keep-no x l n) at h))))
+      (true-or-false (test x))
+  keep-passes (x ∷ l) (suc t) h =
+      ⊎-elim
+      (λ y. rw (keep-yes x l y) (later x (getD (keep test l) t 0) l (keep-passes l t (le-of-suc-le-suc (rw (keep-yes x l y) at h)))))
+      (λ n. rw (keep-no x l n) (later x (getD (keep test l) (suc t) 0) l (keep-passes l (suc t) (rw (keep-no x l n) at h))))
+      (true-or-false (test x))
+
+-- of the numbers below m that pass a test, those that pass another
+pub keep-keepBelow : (f test : ℕ → Bool) (m : ℕ) → keep test (keepBelow f m) ≡ keepBelow (λ e. f e && test e) m
+unfolding keepBelow keep
+keep-keepBelow f test zero = refl
+keep-keepBelow f test (suc m) =
+    keep-append test (keepBelow f m) (pick (f m) (m ∷ []) [])
+    ∙ ap (λ (l : List ℕ). l ++ keep test (pick (f m) (m ∷ []) [])) (keep-keepBelow f test m)
+    ∙ ap (λ (l : List ℕ). keepBelow (λ e. f e && test e) m ++ l) (one (f m) refl)
+  where
+    one : (t : Bool) → f m ≡ t → keep test (pick (f m) (m ∷ []) []) ≡ pick (f m && test m) (m ∷ []) []
+    one true e = rw (e, pick-true {A = List ℕ} true (m ∷ []) [] refl) (keep-one test m)
+    one false e = rw (e, pick-false {A = List ℕ} false (m ∷ []) [] refl)

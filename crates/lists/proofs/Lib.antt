@@ -7,9 +7,11 @@ pub mod AnyBelow
 pub mod Lowest
 pub mod Fold
 pub mod Values
+pub mod Blank
 pub mod Each
 pub mod Changed
 pub mod Keep
+pub mod First
 pub mod Front
 pub mod Tally
 pub mod Among

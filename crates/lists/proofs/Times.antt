@@ -2,25 +2,28 @@
 -- Assumes nothing.
 use mathlib.Core.Path.{_≡_, refl, sym, ap, _∙_}
 use mathlib.Core.Logic.{_≢_, ⊎-elim}
-use mathlib.Core.Bool.{Bool, true}
-use mathlib.Core.List.{List, [], _∷_, _++_}
+use mathlib.Core.Bool.{Bool, true, false, true≢false}
+use mathlib.Core.List.{List, [], _∷_, _++_, reverse, reverse-cons}
 use Prim.Native.Nat.{ℕ, zero, suc, _+_, _<_, _≤_}
-use native.Mathlib.Nat.{not-suc-le-zero, le-of-suc-le-suc, zero-lt-suc}
+use native.Mathlib.Nat.{add-zero, not-suc-le-zero, le-of-suc-le-suc, zero-lt-suc}
 use native.Mathlib.Numerals.{add-one}
 use native.Mathlib.Omega.{arith}
 use borrow.Author.Tests.{eq-eqb, ne-eqb}
 use lib.Dec.{eqb}
 use lib.ListN.{length, take, length-append}
+use lib.Seq.{take-all}
 use Rattle.lists.specs.Choice.{pick}
 use Rattle.lists.specs.Keep.{keep, keepBelow}
 use Rattle.lists.specs.Entry.{nth}
 use Rattle.lists.specs.Times.{times}
 use Rattle.lists.specs.Total.{total}
+use Rattle.lists.specs.Values.{values}
 use Rattle.lists.specs.Chain.{chain}
 use Rattle.lists.proofs.Cases.{same-or-not, less-or-not, true-or-false}
 use Rattle.lists.proofs.Choice.{pick-true, pick-false, pick-same, pick-other}
 use Rattle.lists.proofs.Fold.{take-more}
-use Rattle.lists.proofs.Keep.{keepBelow-yes, keepBelow-no, keepBelow-empty}
+use Rattle.lists.proofs.Keep.{keep-yes, keep-no, keepBelow-yes, keepBelow-no, keepBelow-empty, keepBelow-ext}
+use Rattle.lists.proofs.Values.{values-none, values-length, values-at, values-more}
 use Rattle.lists.proofs.Chain.{chain-none, chain-suc}
 use Rattle.lists.proofs.Total.{total-none, total-suc, total-ext, total-zero, total-plus}
 
@@ -220,3 +223,83 @@ times-alike a b f g v w x =
 pub times-lengths : (n : ℕ) (a b : List ℕ) → ((x : ℕ) → 0 < times x a → x < n) → ((x : ℕ) → times x a ≡ times x b) → length a ≡ length b
 times-lengths n a b h e =
     sym (total-times n a h) ∙ total-ext n (λ x. times x a) (λ x. times x b) (λ x _. e x) ∙ total-times n b (λ x k. h x (omega (arith, e x)))
+
+-- ---- of a list reversed
+
+pub times-reverse : (x : ℕ) (l : List ℕ) → times x (reverse l) ≡ times x l
+times-reverse x [] = refl
+times-reverse x (y ∷ l) =
+    let a = ap (times x) (reverse-cons y l) ∙ times-append x (reverse l) (y ∷ []) in
+    let b = times-append x (y ∷ []) l in
+    let i = times-reverse x l in
+    omega arith
+
+-- ---- of what passes a test, and of values
+
+-- a number that passes stands there as often as before, another does not
+pub times-pass : (x : ℕ) (test : ℕ → Bool) (l : List ℕ) → test x ≡ true → times x (keep test l) ≡ times x l
+unfolding keep
+times-pass x test [] e = refl
+times-pass x test (y ∷ l) e =
+    let i = times-pass x test l e in
+    let a = times-append x (pick (test y) (y ∷ []) []) (keep test l) in
+    let b = times-append x (y ∷ []) l in
+    ⊎-elim
+    (λ t. omega (arith, ap (times x) (pick-true (test y) (y ∷ []) [] t)))
+    (λ t. omega (arith, ap (times x) (pick-false (test y) (y ∷ []) [] t), times-none x, times-other x y [] (λ q. true≢false (sym e ∙ ap test q ∙ t))))
+    (true-or-false (test y))
+
+pub times-fail : (x : ℕ) (test : ℕ → Bool) (l : List ℕ) → test x ≡ false → times x (keep test l) ≡ 0
+unfolding keep
+times-fail x test [] e = times-none x
+times-fail x test (y ∷ l) e =
+    let i = times-fail x test l e in
+    let a = times-append x (pick (test y) (y ∷ []) []) (keep test l) in
+    ⊎-elim
+    (λ t. omega (arith, ap (times x) (pick-true (test y) (y ∷ []) [] t), times-none x, times-other x y [] (λ q. true≢false (sym t ∙ ap test (sym q) ∙ e))))
+    (λ t. omega (arith, ap (times x) (pick-false (test y) (y ∷ []) [] t), times-none x))
+    (true-or-false (test y))
+
+-- of lists of the same entries as many pass
+pub times-kept : (n : ℕ) (test : ℕ → Bool) (a b : List ℕ) → ((x : ℕ) → 0 < times x a → x < n) → ((x : ℕ) → times x a ≡ times x b) → length (keep test a) ≡ length (keep test b)
+times-kept n test a b h e =
+    times-lengths n (keep test a) (keep test b) (λ x l. h x (omega (arith, times-keep x test a)))
+    (λ x. ⊎-elim (λ t. omega (arith, e x, times-pass x test a t, times-pass x test b t)) (λ t. omega (arith, times-fail x test a t, times-fail x test b t)) (true-or-false (test x)))
+
+pub times-values : (x n : ℕ) (f : ℕ → ℕ) → length (keepBelow (λ j. eqb (f j) x) n) ≡ times x (values n f)
+times-values x n f =
+    alike
+    ∙ times-places (values n f) x n (omega (arith, values-length f n))
+    ∙ ap (times x) (take-all n (values n f) (omega (arith, values-length f n)))
+  where
+    alike : length (keepBelow (λ j. eqb (f j) x) n) ≡ length (keepBelow (λ e. eqb (nth (values n f) e) x) n)
+    alike = ap length (keepBelow-ext (λ j. eqb (f j) x) (λ e. eqb (nth (values n f) e) x) n (λ j h. ap (λ (k : ℕ). eqb k x) (sym (values-at f n j 0 h))))
+
+-- where a test passes one number less, as many less pass as it stands there
+pub times-less : (f g : ℕ → Bool) (p : ℕ) → f p ≡ true → g p ≡ false → ((x : ℕ) → x ≢ p → g x ≡ f x) → (l : List ℕ) → length (keep g l) + times p l ≡ length (keep f l)
+unfolding keep
+times-less f g p there gone same [] = omega (arith, times-none p)
+times-less f g p there gone same (x ∷ l) =
+    let i = times-less f g p there gone same l in
+    ⊎-elim
+    (λ e. omega (arith, times-same p x l (sym e), ap length (keep-yes f x l (ap f e ∙ there)), ap length (keep-no g x l (ap g e ∙ gone))))
+    (λ d.
+    let o = times-other p x l (λ q. d (sym q)) in
+    ⊎-elim
+    (λ t. omega (arith, ap length (keep-yes f x l t), ap length (keep-yes g x l (same x d ∙ t))))
+    (λ t. omega (arith, ap length (keep-no f x l t), ap length (keep-no g x l (same x d ∙ t))))
+    (true-or-false (f x)))
+    (same-or-not x p)
+
+-- ---- in the first of given values, as a loop counts
+
+module _ (x : ℕ) (f : ℕ → ℕ) where
+  pub times-start : times x (values 0 f) ≡ 0
+  times-start = ap (times x) (values-none f) ∙ times-none x
+
+  pub times-met : (j : ℕ) → x ≡ f j → times x (values (j + 1) f) ≡ times x (values j f) + 1
+  times-met j e = ap (times x) (values-more f j) ∙ times-append x _ _ ∙ ap (λ (k : ℕ). times x (values j f) + k) (times-same x (f j) [] e ∙ ap (λ (k : ℕ). 1 + k) (times-none x))
+
+  pub times-passed : (j : ℕ) → (x ≡ f j → ⊥) → times x (values (j + 1) f) ≡ times x (values j f)
+  times-passed j n =
+      ap (times x) (values-more f j) ∙ times-append x _ _ ∙ ap (λ (k : ℕ). times x (values j f) + k) (times-other x (f j) [] n ∙ times-none x) ∙ add-zero _

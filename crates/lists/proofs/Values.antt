@@ -1,8 +1,8 @@
 -- Laws of the list of given values: its entries and its length. A part that a loop fills with them is in Laid.antt.
 -- Assumes nothing.
-use Prim.Native.Nat.{ℕ, zero, suc, _+_, _<_}
+use Prim.Native.Nat.{ℕ, zero, suc, _+_, _-_, _<_}
 use mathlib.Core.Path.{_≡_, refl, ap, sym, _∙_}
-use mathlib.Core.List.{List, [], _∷_, _++_, map, append-nil, append-assoc}
+use mathlib.Core.List.{List, [], _∷_, _++_, map, append-nil, append-assoc, reverse, reverse-cons}
 use native.Mathlib.Nat.{add-zero, zero-add, add-suc, suc-add, le-of-suc-le-suc, not-suc-le-zero}
 use native.Mathlib.Numerals.{add-one}
 use native.Mathlib.Omega.{arith}
@@ -81,3 +81,16 @@ values-add n (suc k) f =
     ap (λ (m : ℕ). values m f) (add-suc n k ∙ sym (add-one (n + k))) ∙ values-more f (n + k)
     ∙ ap (λ l. l ++ f (n + k) ∷ []) (values-add n k f) ∙ append-assoc (values n f) (values k (λ j. f (n + j))) (f (n + k) ∷ [])
     ∙ ap (λ l. values n f ++ l) (sym (values-more (λ j. f (n + j)) k) ∙ ap (λ (m : ℕ). values m (λ j. f (n + j))) (add-one k))
+
+-- a list reversed
+pub reverse-values {ℓ} : {A : Type ℓ} (d : A) (l : List A) → reverse l ≡ values (length l) (λ t. getD l (length l - (t + 1)) d)
+unfolding values
+reverse-values d [] = refl
+reverse-values {A = A} d (x ∷ l) =
+    let n = length l in
+    let f : ℕ → A = λ t. getD (x ∷ l) (suc n - (t + 1)) d in
+    reverse-cons x l
+    ∙ ap (λ (a : List A). a ++ x ∷ []) (reverse-values d l ∙ values-ext n (λ t. getD l (n - (t + 1)) d) f d (λ t h. let e : suc n - (t + 1) ≡ suc (n - (t + 1)) = omega arith in ap (λ (k : ℕ). getD (x ∷ l) k d) (sym e)))
+    ∙ ap (λ (y : A). values n f ++ y ∷ []) (let e : suc n - (n + 1) ≡ 0 = omega arith in ap (λ (k : ℕ). getD (x ∷ l) k d) (sym e))
+    ∙ sym (values-more f n)
+    ∙ ap (λ (k : ℕ). values k f) (add-one n)

@@ -20,10 +20,10 @@ use Rattle.field.specs.Field.{product}
 use Rattle.field.specs.FieldSum.{fieldSum}
 use Rattle.field.proofs.FieldSum.{sum-ext, sum-zero, sum-xor, sum-one}
 use Rattle.field.proofs.Product.{xor-product, zero-product}
-use Rattle.graph.specs.Graph.{Edge, Graph, checkCount, check}
-use Rattle.graph.specs.Matrix.{entryTurn, entry, matrixOf}
-use Rattle.graph.specs.Solutions.{rowTimes, Solves}
-use Rattle.graph.proofs.Entries.{Inside}
+use Rattle.elimination.specs.Graph.{Edge, Graph, checkCount, check}
+use Rattle.elimination.specs.Matrix.{entryTurn, entry, matrixOf}
+use Rattle.elimination.specs.Solutions.{rowTimes, Solves}
+use Rattle.elimination.proofs.Entries.{Inside}
 use Rattle.words.specs.Word.{sumTurn, checkSum, allSatisfied}
 
 -- each check has the sum 0

@@ -16,13 +16,13 @@ use Rattle.lists.proofs.Values.{values-length, values-at, values-ext, map-entri
 use Rattle.field.specs.Field.{product}
 use Rattle.field.proofs.FieldSum.{sum-ext, sum-lt}
 use Rattle.field.proofs.Product.{mod32, product-lt}
-use Rattle.graph.specs.Graph.{Graph, checkCount}
-use Rattle.graph.specs.Matrix.{matrixOf}
-use Rattle.graph.specs.Elimination.{State, reduced}
-use Rattle.graph.proofs.Eliminated.{Eliminated}
-use Rattle.graph.proofs.Entries.{Small, Inside}
-use Rattle.graph.proofs.Infos.{info-or-pivot, info-no-pivot, info-inside, infos-ascend, pivots-distinct}
-use Rattle.graph.proofs.Reduced.{reduced-is}
+use Rattle.elimination.specs.Graph.{Graph, checkCount}
+use Rattle.elimination.specs.Matrix.{matrixOf}
+use Rattle.elimination.specs.Elimination.{State, reduced}
+use Rattle.elimination.proofs.Eliminated.{Eliminated}
+use Rattle.elimination.proofs.Entries.{Small, Inside}
+use Rattle.elimination.proofs.Infos.{info-or-pivot, info-no-pivot, info-inside, infos-ascend, pivots-distinct}
+use Rattle.elimination.proofs.Reduced.{reduced-is}
 use Rattle.words.specs.Encoding.{informationOf, symbol, placed, paritySymbol, encoding, infoSymbols}
 use Rattle.words.specs.Word.{Symbols, Word}
 use Rattle.words.proofs.CheckSums.{satisfied-solves}

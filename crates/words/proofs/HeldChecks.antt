@@ -11,9 +11,9 @@ use Rattle.lists.specs.Entry.{nth}
 use Rattle.lists.proofs.AnyBelow.{anyBelow-ext}
 use Rattle.lists.proofs.Values.{values-at, values-length}
 use Rattle.field.specs.Field.{product}
-use Rattle.graph.specs.Graph.{Edge}
-use Rattle.graph.specs.Held.{edgesIn, held}
-use Rattle.graph.proofs.Checks.{edges-none, edges-more}
+use Rattle.elimination.specs.Graph.{Edge}
+use Rattle.elimination.specs.Held.{edgesIn, held}
+use Rattle.elimination.proofs.Checks.{edges-none, edges-more}
 use Rattle.words.specs.Word.{sumTurn, checkSum, allSatisfied}
 
 module _ (var coef : List ℕ) (x : List ℕ) where

@@ -15,13 +15,13 @@ use Rattle.field.specs.FieldSum.{fieldSum}
 use Rattle.field.proofs.FieldSum.{sum-ext, sum-past}
 use Rattle.field.proofs.Product.{product-zero, product-mod-right}
 use Rattle.graph.specs.declared.Code.{Code}
-use Rattle.graph.specs.Elimination.{infos}
-use Rattle.graph.specs.Held.{held}
-use Rattle.graph.specs.Misencoded.{graphIn, reducedIn}
-use Rattle.graph.specs.Parts.{Parts, table}
-use Rattle.graph.specs.Sound.{Sound}
-use Rattle.graph.proofs.Infos.{info-inside, table-fits}
-use Rattle.graph.proofs.Sound.{sound-infos, sound-eliminated}
+use Rattle.elimination.specs.Elimination.{infos, table}
+use Rattle.elimination.specs.Held.{held}
+use Rattle.lent.specs.Misencoded.{graphIn, reducedIn}
+use Rattle.graph.specs.Parts.{Parts}
+use Rattle.lent.specs.Sound.{Sound}
+use Rattle.elimination.proofs.Infos.{info-inside, table-fits}
+use Rattle.lent.proofs.Sound.{sound-infos, sound-eliminated}
 use Rattle.words.specs.Encoding.{informationOf, symbol, placed, paritySymbol, encoding, infoSymbols}
 use Rattle.words.proofs.Encodings.{info-values}
 use Rattle.words.proofs.Placed.{placed-ext}

@@ -16,8 +16,8 @@ use Rattle.lists.proofs.Values.{values-length, values-at, map-entries}
 use Rattle.field.specs.Field.{product}
 use Rattle.field.proofs.Product.{mod32, product-lt, product-comm, product-assoc, product-xor, zero-product, product-mod-left}
 use Rattle.field.proofs.Sum.{xor-inter}
-use Rattle.graph.specs.Graph.{Edge, Graph, check}
-use Rattle.graph.proofs.Entries.{Small, Inside}
+use Rattle.elimination.specs.Graph.{Edge, Graph, check}
+use Rattle.elimination.proofs.Entries.{Small, Inside}
 use Rattle.words.specs.Encoding.{informationOf, encoding}
 use Rattle.words.specs.Linear.{sumOf, multipleOf}
 use Rattle.words.specs.Word.{sumTurn, checkSum, Word}

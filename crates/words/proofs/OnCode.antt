@@ -11,7 +11,7 @@ use Rattle.calls.proofs.Refusal.{first, second}
 use Rattle.calls.proofs.Parts.{refused, found, zeroed, kept, put}
 use Rattle.graph.specs.declared.Code.{Code}
 use Rattle.graph.specs.Parts.{Parts}
-use Rattle.graph.specs.LentCode.{MatrixWork, matrixLeft, refusals}
+use Rattle.lent.specs.LentCode.{MatrixWork, matrixLeft, refusals}
 use Rattle.words.specs.OnCode.{Told, told, Filled, filled}
 
 -- every number but 1 to 3 leaves the work parts alike

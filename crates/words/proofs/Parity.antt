@@ -19,11 +19,11 @@ use Rattle.field.specs.Field.{product}
 use Rattle.field.proofs.FieldSum.{sum-ext, sum-zero, sum-xor, sum-one, sum-keep}
 use Rattle.field.proofs.Product.{one-product, zero-product}
 use Rattle.field.proofs.Sum.{xor-equal}
-use Rattle.graph.specs.Matrix.{Matrix}
-use Rattle.graph.specs.Elimination.{State, infos}
-use Rattle.graph.specs.Solutions.{rowTimes, Solves}
-use Rattle.graph.proofs.Eliminated.{Eliminated}
-use Rattle.graph.proofs.Infos.{pivots-distinct}
+use Rattle.elimination.specs.Matrix.{Matrix}
+use Rattle.elimination.specs.Elimination.{State, infos}
+use Rattle.elimination.specs.Solutions.{rowTimes, Solves}
+use Rattle.elimination.proofs.Eliminated.{Eliminated}
+use Rattle.elimination.proofs.Infos.{pivots-distinct}
 use Rattle.words.specs.Encoding.{paritySymbol}
 
 module _ {m n : ℕ} {order : ℕ → ℕ} {h : Matrix} {s : State} (w : Eliminated m n order h n s) (each : EachOnce n order) (x : ℕ → ℕ) (small : (j : ℕ) → j < n → x j < 32) where

@@ -10,14 +10,14 @@ use lib.ListN.{length}
 use Rattle.lists.specs.Entry.{nth}
 use Rattle.lists.specs.Values.{values}
 use Rattle.graph.specs.declared.Code.{Code}
-use Rattle.graph.specs.Graph.{Graph}
-use Rattle.graph.specs.Held.{held}
-use Rattle.graph.specs.LentCode.{NotRefused}
-use Rattle.graph.specs.Misencoded.{graphIn}
+use Rattle.elimination.specs.Graph.{Graph}
+use Rattle.elimination.specs.Held.{held}
+use Rattle.lent.specs.LentCode.{NotRefused}
+use Rattle.lent.specs.Misencoded.{graphIn}
 use Rattle.graph.specs.Parts.{Parts}
-use Rattle.graph.specs.Sound.{Sound}
-use Rattle.graph.proofs.Sound.{sound}
-use Rattle.graph.proofs.Entries.{Small, Inside, held-small, held-inside}
+use Rattle.lent.specs.Sound.{Sound}
+use Rattle.lent.proofs.Sound.{sound}
+use Rattle.elimination.proofs.Entries.{Small, Inside, held-small, held-inside}
 use Rattle.words.specs.Encoding.{informationOf, symbol, encoding, infoSymbols}
 use Rattle.words.specs.Linear.{sumOf, multipleOf}
 use Rattle.words.specs.Word.{Symbols, Word, allSatisfied}

@@ -6,8 +6,8 @@ use lib.ListN.{length}
 use Rattle.calls.specs.Refusal.{misfit}
 use Rattle.graph.specs.declared.Code.{Code}
 use Rattle.graph.specs.Parts.{Parts}
-use Rattle.graph.specs.Misencoded.{graphIn}
-use Rattle.graph.specs.LentCode.{MatrixWork, refusals}
+use Rattle.lent.specs.Misencoded.{graphIn}
+use Rattle.lent.specs.LentCode.{MatrixWork, refusals}
 use Rattle.words.specs.declared.Verdict.{Verdict}
 use Rattle.words.specs.declared.Verdict.the-variants.{Checked, Refused}
 use Rattle.words.specs.Word.{allSatisfied}

@@ -6,10 +6,10 @@ use mathlib.Core.List.{[], _∷_, _++_}
 use lib.Dec.{leb}
 use Rattle.lists.specs.Times.{times}
 use Rattle.graph.specs.declared.Code.{Code}
-use Rattle.graph.specs.Graph.{Graph}
+use Rattle.elimination.specs.Graph.{Graph}
 use Rattle.graph.specs.Parts.{Parts, variables}
-use Rattle.graph.specs.Misencoded.{graphIn}
-use Rattle.graph.specs.LentCode.{MatrixWork, refusals}
+use Rattle.lent.specs.Misencoded.{graphIn}
+use Rattle.lent.specs.LentCode.{MatrixWork, refusals}
 use Rattle.words.specs.declared.Number.{Number}
 use Rattle.words.specs.declared.Number.the-variants.{Found, Refused}
 use Rattle.words.specs.OnCode.{Told, told}

@@ -10,8 +10,8 @@ use Rattle.graph.specs.declared.Code.{Code}
 use Rattle.graph.specs.declared.Answer.{Answer}
 use Rattle.graph.specs.declared.Answer.the-variants.{Done, Refused}
 use Rattle.graph.specs.Parts.{Parts}
-use Rattle.graph.specs.Misencoded.{graphIn}
-use Rattle.graph.specs.LentCode.{MatrixWork, refusals}
+use Rattle.lent.specs.Misencoded.{graphIn}
+use Rattle.lent.specs.LentCode.{MatrixWork, refusals}
 use Rattle.words.specs.Encoding.{informationOf, encoding}
 use Rattle.words.specs.OnCode.{Filled, filled}
 

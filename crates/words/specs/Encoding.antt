@@ -7,8 +7,8 @@ use Rattle.lists.specs.Iter.{iter}
 use Rattle.lists.specs.Entry.{nth}
 use Rattle.field.specs.Field.{product}
 use Rattle.field.specs.FieldSum.{fieldSum}
-use Rattle.graph.specs.Graph.{Graph}
-use Rattle.graph.specs.Elimination.{State, reduced, infos}
+use Rattle.elimination.specs.Graph.{Graph}
+use Rattle.elimination.specs.Elimination.{State, reduced, infos}
 
 -- the information positions of a graph in a column order: "those that elimination in the code's column order gives no pivot, in the source's order"
 unfoldable pub informationOf : Graph → List ℕ → List ℕ

@@ -3,8 +3,8 @@
 use mathlib.Core.Bool.{false}
 use Rattle.graph.specs.declared.Code.{Code}
 use Rattle.graph.specs.Parts.{Parts}
-use Rattle.graph.specs.Misencoded.{graphIn}
-use Rattle.graph.specs.LentCode.{MatrixWork, refusals}
+use Rattle.lent.specs.Misencoded.{graphIn}
+use Rattle.lent.specs.LentCode.{MatrixWork, refusals}
 use Rattle.words.specs.declared.Number.{Number}
 use Rattle.words.specs.declared.Number.the-variants.{Found, Refused}
 use Rattle.words.specs.OnCode.{Told, told}

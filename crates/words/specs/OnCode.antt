@@ -5,7 +5,7 @@ use mathlib.Core.Bool.{Bool}
 use mathlib.Core.List.{List}
 use Rattle.calls.specs.Refusal.{refusal}
 use Rattle.calls.specs.Parts.{answered, written}
-use Rattle.graph.specs.LentCode.{MatrixWork, matrixLeft}
+use Rattle.lent.specs.LentCode.{MatrixWork, matrixLeft}
 
 pub record Told (A : Type 0) : Type 0 where
   pub answer : A

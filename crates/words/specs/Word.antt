@@ -10,7 +10,7 @@ use lib.ListN.{length}
 use Rattle.lists.specs.AnyBelow.{anyBelow}
 use Rattle.lists.specs.Entry.{nth}
 use Rattle.field.specs.Field.{product}
-use Rattle.graph.specs.Graph.{Edge, Graph, checkCount, check}
+use Rattle.elimination.specs.Graph.{Edge, Graph, checkCount, check}
 
 -- "the field sum of coefficient times symbol over its edges"
 abbrev pub sumTurn : List ℕ → ℕ → Edge → ℕ

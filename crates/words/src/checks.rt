@@ -4,7 +4,7 @@ ghost use Prim.Native.Nat.{ℕ, _+_, _<_, _≤_};
 ghost use lib.ListN.{length};
 ghost use Rattle.lists.specs.Entry.{nth};
 ghost use Rattle.field.specs.Tabled.{Tabled};
-ghost use Rattle.graph.specs.Held.{edgesIn, held};
+ghost use Rattle.elimination.specs.Held.{edgesIn, held};
 ghost use Rattle.words.specs.Word.{checkSum, allSatisfied};
 ghost use Rattle.words.specs.BadWord.{badWord};
 use field::gf::mul_by;

@@ -3,7 +3,7 @@
 ghost use mathlib.Core.Path.{_≡_};
 ghost use Rattle.graph.specs.declared.Answer.{Answer};
 ghost use Rattle.graph.specs.Parts.{lent};
-ghost use Rattle.graph.specs.LentCode.{lentMatrix};
+ghost use Rattle.lent.specs.LentCode.{lentMatrix};
 ghost use Rattle.words.specs.declared.Number.{Number};
 ghost use Rattle.words.specs.declared.Verdict.{Verdict};
 ghost use Rattle.words.specs.OnCode.{Told, Filled};
@@ -14,13 +14,12 @@ ghost use Rattle.words.specs.Degree.{degreeOf};
 ghost use Rattle.words.specs.K.{kOf};
 ghost use Rattle.words.specs.N.{nOf};
 ghost use Rattle.words.specs.InfoPositions.{infoPositions};
+use calls::clear::clear_u8;
+use calls::clear::clear_u16;
 use field::tables::EXP;
 use field::tables::LOG;
 use graph::Answer;
 use graph::Code;
-use graph::clear::clear_u8;
-use graph::clear::clear_u16;
-use graph::lent;
 
 mod checks;
 mod encoder;

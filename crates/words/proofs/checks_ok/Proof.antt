@@ -12,11 +12,11 @@ use lib.ListN.{length}
 use Rattle.calls.specs.Refusal.{refusal, misfit}
 use Rattle.calls.proofs.Refusal.{alike, refusal-hit, refusal-miss, refusal-none}
 use Rattle.field.proofs.Logarithms.{exps, logs, tabled}
-use Rattle.graph.specs.Held.{held}
-use Rattle.graph.specs.LentCode.{MatrixWork, lentMatrix, refusals}
+use Rattle.elimination.specs.Held.{held}
+use Rattle.lent.specs.LentCode.{MatrixWork, lentMatrix, refusals}
 use Rattle.graph.specs.Parts.{Parts, lent}
-use Rattle.graph.specs.Sound.{Sound}
-use Rattle.graph.proofs.Sound.{passed}
+use Rattle.lent.specs.Sound.{Sound}
+use Rattle.lent.proofs.Sound.{passed}
 use Rattle.words.specs.declared.Verdict.the-variants.{Checked, Refused}
 use Rattle.words.specs.BadWord.{badWord}
 use Rattle.words.specs.Word.{allSatisfied}

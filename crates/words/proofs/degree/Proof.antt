@@ -13,11 +13,11 @@ use lib.ListN.{length}
 use Rattle.lists.specs.Entry.{nth}
 use Rattle.calls.specs.Refusal.{refusal}
 use Rattle.calls.proofs.Refusal.{refusal-hit, refusal-miss, refusal-none}
-use Rattle.graph.specs.LentCode.{MatrixWork, lentMatrix, refusals}
+use Rattle.lent.specs.LentCode.{MatrixWork, lentMatrix, refusals}
 use Rattle.graph.specs.Parts.{Parts, lent}
-use Rattle.graph.specs.Sound.{Sound}
-use Rattle.graph.proofs.Sound.{passed}
-use Rattle.graph.proofs.Formed.{list-length}
+use Rattle.lent.specs.Sound.{Sound}
+use Rattle.lent.proofs.Sound.{passed}
+use Rattle.lent.proofs.Formed.{list-length}
 use Rattle.words.specs.declared.Number.the-variants.{Found, Refused}
 use Rattle.words.specs.Degree.{degreeIn, degreeOf}
 use Rattle.words.proofs.OnCode.{told-code, told-call, told-done}

@@ -13,11 +13,11 @@ use lib.ListN.{length, replicate, length-replicate}
 use Rattle.calls.specs.Refusal.{refusal, misfit}
 use Rattle.calls.proofs.Refusal.{alike, refusal-hit, refusal-miss, refusal-none}
 use Rattle.field.proofs.Logarithms.{exps, logs, tabled}
-use Rattle.graph.specs.LentCode.{MatrixWork, lentMatrix, refusals}
+use Rattle.lent.specs.LentCode.{MatrixWork, lentMatrix, refusals}
 use Rattle.graph.specs.Parts.{Parts, lent}
-use Rattle.graph.specs.Sound.{Sound}
+use Rattle.lent.specs.Sound.{Sound}
 use Rattle.graph.specs.declared.Answer.the-variants.{Refused}
-use Rattle.graph.proofs.Sound.{passed, sound-columns}
+use Rattle.lent.proofs.Sound.{passed, sound-columns}
 use Rattle.words.specs.Encoding.{placed}
 use Rattle.words.specs.Encode.{tooManySymbols, encode}
 use Rattle.words.proofs.Placed.{placed-length}

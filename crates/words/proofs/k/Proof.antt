@@ -7,10 +7,10 @@ use native.Mathlib.Omega.{arith}
 use borrow.Author.Needs.{needs}
 use Rattle.calls.specs.Refusal.{refusal}
 use Rattle.calls.proofs.Refusal.{refusal-none}
-use Rattle.graph.specs.LentCode.{MatrixWork, lentMatrix, refusals}
+use Rattle.lent.specs.LentCode.{MatrixWork, lentMatrix, refusals}
 use Rattle.graph.specs.Parts.{Parts, lent}
-use Rattle.graph.specs.Sound.{Sound}
-use Rattle.graph.proofs.Sound.{passed, sound-columns}
+use Rattle.lent.specs.Sound.{Sound}
+use Rattle.lent.proofs.Sound.{passed, sound-columns}
 use Rattle.words.specs.declared.Number.the-variants.{Found, Refused}
 use Rattle.words.specs.K.{kOf}
 use Rattle.words.proofs.LentWords.{positions-length}

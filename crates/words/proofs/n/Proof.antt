@@ -6,8 +6,8 @@ use mathlib.Core.List.{[]}
 use borrow.Author.Needs.{needs}
 use Rattle.calls.specs.Refusal.{refusal}
 use Rattle.calls.proofs.Refusal.{refusal-none}
-use Rattle.graph.specs.Held.{held}
-use Rattle.graph.specs.LentCode.{MatrixWork, lentMatrix, refusals}
+use Rattle.elimination.specs.Held.{held}
+use Rattle.lent.specs.LentCode.{MatrixWork, lentMatrix, refusals}
 use Rattle.graph.specs.Parts.{Parts, lent}
 use Rattle.words.specs.declared.Number.the-variants.{Found, Refused}
 use Rattle.words.specs.N.{nOf}

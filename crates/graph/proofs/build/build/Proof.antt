@@ -11,14 +11,14 @@ use Rattle.lists.specs.Values.{values}
 use Rattle.calls.specs.Parts.{padded}
 use Rattle.calls.proofs.Parts.{padded-filled}
 use Rattle.graph.specs.declared.Code.{Code}
-use Rattle.graph.specs.Graph.{Graph, edges, checkCount}
-use Rattle.graph.specs.Elimination.{State, reduced, infos}
-use Rattle.graph.specs.Parts.{Parts, parts, variables, coefficients, rowStarts, columns, columnStarts, table}
-use Rattle.graph.specs.Held.{held}
+use Rattle.elimination.specs.Graph.{Graph, edges, checkCount}
+use Rattle.elimination.specs.Elimination.{State, reduced, infos, table}
+use Rattle.graph.specs.Parts.{Parts, parts, variables, coefficients, rowStarts, columns, columnStarts}
+use Rattle.elimination.specs.Held.{held}
 use Rattle.graph.specs.Descending.{descending}
 use Rattle.graph.specs.Built.{built}
 use Rattle.graph.specs.New.{numbers}
-use Rattle.graph.specs.Encodable.{Encodable}
+use Rattle.elimination.specs.Encodable.{Encodable}
 use Rattle.graph.proofs.Built.{built-n, built-m}
 use Rattle.graph.proofs.BuiltWell.{built-encodable, built-reduced}
 use Rattle.graph.proofs.build.build.Statement.{statement}

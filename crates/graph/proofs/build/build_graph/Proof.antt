@@ -11,7 +11,7 @@ use Rattle.lists.specs.Values.{values}
 use Rattle.lists.specs.Chain.{chain, startOf}
 use Rattle.lists.specs.Laid.{laid}
 use Rattle.lists.proofs.Laid.{laid-take}
-use Rattle.graph.specs.Graph.{Edge, Graph, edges}
+use Rattle.elimination.specs.Graph.{Edge, Graph, edges}
 use Rattle.graph.specs.Parts.{variables, coefficients, places, rowStarts, columns, columnStarts}
 use Rattle.growth.specs.Growth.{Growth}
 use Rattle.growth.specs.Rows.{rows}

@@ -14,7 +14,7 @@ use Rattle.lists.specs.AnyBelow.{anyBelow}
 use Rattle.lists.specs.Entry.{nth}
 use Rattle.lists.proofs.AnyBelow.{anyBelow-start, anyBelow-on, anyBelow-hit, anyBelow-end}
 use Rattle.lists.proofs.Rising.{rises}
-use Rattle.graph.specs.Held.{held}
+use Rattle.elimination.specs.Held.{held}
 use Rattle.words.specs.Word.{allSatisfied}
 use Rattle.words.proofs.HeldChecks.{fails, held-satisfied}
 use Rattle.words.proofs.checks.all_satisfied.Statement.{statement}

@@ -8,7 +8,7 @@ use denote.Ref.{now}
 use lib.Bits.{bitXor}
 use lib.ListN.{length}
 use Rattle.lists.specs.Entry.{nth}
-use Rattle.graph.specs.Held.{edgesIn}
+use Rattle.elimination.specs.Held.{edgesIn}
 use Rattle.words.specs.Word.{checkSum}
 use Rattle.words.proofs.HeldChecks.{check-start, check-on}
 use Rattle.words.proofs.checks.check_sum.Statement.{statement}

@@ -10,7 +10,7 @@ use lib.ListN.{length, set, length-set}
 use Rattle.lists.specs.Entry.{nth}
 use Rattle.field.specs.Field.{product}
 use Rattle.field.specs.FieldSum.{fieldSum}
-use Rattle.graph.proofs.TableRows.{room, next}
+use Rattle.elimination.proofs.TableRows.{room, next}
 use Rattle.words.specs.Encoding.{placed}
 use Rattle.words.proofs.Placed.{placed-start, placed-on, placed-end}
 use Rattle.words.proofs.encoder.place_parity.Statement.{statement}

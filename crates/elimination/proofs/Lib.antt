@@ -1,0 +1,12 @@
+pub mod Swapped
+pub mod Cleared
+pub mod Eliminated
+pub mod Infos
+pub mod Alike
+pub mod Columns
+pub mod Clearing
+pub mod ColumnTurn
+pub mod Checks
+pub mod Entries
+pub mod Reduced
+pub mod TableRows

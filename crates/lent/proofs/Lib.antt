@@ -1,0 +1,9 @@
+pub mod HeldVariables
+pub mod Fits
+pub mod Formed
+pub mod Encoded
+pub mod Sound
+pub mod SoundProper
+pub mod LentEnds
+pub mod SoundPasses
+pub mod NotRefused

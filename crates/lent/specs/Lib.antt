@@ -1,0 +1,4 @@
+pub mod Malformed
+pub mod Misencoded
+pub mod LentCode
+pub mod Sound

@@ -1,0 +1,10 @@
+pub mod SignedOrder
+pub mod BestSymbol
+pub mod Turns
+pub mod PeeledOrder
+pub mod Peelable
+pub mod PeeledCode
+pub mod Counts
+pub mod Learnt
+pub mod State
+pub mod Recoded

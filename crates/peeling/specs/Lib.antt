@@ -1,0 +1,6 @@
+pub mod Best
+pub mod Peeling
+pub mod Peelable
+pub mod PeeledOrder
+pub mod PeelPicks
+pub mod WithPeeledInfo
