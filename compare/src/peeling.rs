@@ -5,8 +5,8 @@ use crate::calls::encoding;
 use crate::code::Code;
 use crate::codes::{self, accepted};
 use crate::filling::BEFORE;
-use crate::lent_code::{LentCode, LentOwn};
-use crate::on_code::{Call, Judged, Tallies, WORK};
+use crate::lent_code::LentCode;
+use crate::on_code::{Call, Judged, Tallies, WORK, timed};
 use crate::oracle::{NbCode, RATES, degrees_for};
 use crate::preferences::{at_random, of_each_kind, of_numbers};
 use crate::random::Random;
@@ -148,13 +148,7 @@ fn measure_code(on: &Judged, prefer: &[i64]) {
         },
     ];
     let code = RefCell::new(LentCode::new(&on.code, WORK, &BEFORE[0]));
-    let mut ours = calls.map(|call| {
-        let mut own = LentOwn::new(&call, &BEFORE[0]);
-        let code = &code;
-        move || {
-            black_box(own.call(black_box(&call), &mut code.borrow_mut()));
-        }
-    });
+    let mut ours = timed(calls, &code);
     let built = on.built();
     // The Rust's method takes its code. What it gives stands here until the next is copied, so that
     // neither copying nor dropping is timed.

@@ -5,8 +5,8 @@ use crate::code::Code;
 use crate::codes;
 use crate::filling::BEFORE;
 use crate::judge::judged;
-use crate::lent_code::{LentCode, LentOwn};
-use crate::on_code::{Asked, Call, Judged, Tallies, WORK};
+use crate::lent_code::LentCode;
+use crate::on_code::{Asked, Call, Judged, Tallies, WORK, timed};
 use crate::oracle::NbCode;
 use crate::random::Random;
 use crate::speed::{Test, best_times, print_ratio};
@@ -93,15 +93,8 @@ fn measure_code(on: &Judged) {
         },
         Call::ChecksOk { word: word.clone() },
     ];
-    // All in the same memory, since a difference of their times is taken.
     let code = RefCell::new(LentCode::new(&on.code, WORK, &BEFORE[0]));
-    let mut ours = calls.map(|call| {
-        let mut own = LentOwn::new(&call, &BEFORE[0]);
-        let code = &code;
-        move || {
-            black_box(own.call(black_box(&call), &mut code.borrow_mut()));
-        }
-    });
+    let mut ours = timed(calls, &code);
     let mut again = judged(&on.code).expect("the code is not refused");
     let order: Vec<usize> = (0..n).rev().collect();
     let [k, n_alone, k_again, n_again, encode, checks_ok] = ours.each_mut();

@@ -4,7 +4,6 @@ use Prim.Native.Nat.{ℕ, _+_, _-_, _<_, _≤_}
 use mathlib.Core.Path.{_≡_, sym, ap, subst, _∙_}
 use mathlib.Core.Bool.{Bool, false, not, _||_}
 use mathlib.Core.List.{List}
-use native.Mathlib.Nat.{le-refl}
 use native.Mathlib.Omega.{arith}
 use borrow.Author.Tests.{ltb-false, eqb-true, eqb-false, not-false}
 use lib.Dec.{eqb, ltb}
@@ -84,6 +83,10 @@ formed c p e =
       order = eachOnce-true (c .n) (nth (p .order)) (not-false (eachOnce (c .n) (nth (p .order))) (t .1 .1 .1 .1 .1 .1 .0));
     }
 
+-- each of k lists ends within the count
+pub starts-end : {k count : ℕ} {starts : ℕ → ℕ} → Starts k count starts → (i : ℕ) → i < k → starts (i + 1) ≤ count
+starts-end {k} {count} {starts} w i h = omega (arith, rises k starts (w .rise) (i + 1) k (omega arith) (omega arith), w .last)
+
 -- ---- a list must hold each edge of its variable once and nothing else
 
 module _ (c : Code) (p : Parts) (size : Fits c p) (w : Formed c p) (v : ℕ) (h : v < c .n) where
@@ -101,7 +104,7 @@ module _ (c : Code) (p : Parts) (size : Fits c p) (w : Formed c p) (v : ℕ) (h 
 
   -- the list ends within the edges
   end : start (v + 1) ≤ c .edges
-  end = omega (arith, rises (c .n) start (w .columns .rise) (v + 1) (c .n) (omega arith) (le-refl (c .n)), w .columns .last)
+  end = starts-end (w .columns) v h
 
   vars-length : length vars ≡ c .edges
   vars-length = length-take-le (c .edges) (p .var) (omega (arith, w .few, size .parts .var))

@@ -1,6 +1,6 @@
 -- The graph of a lent code that the refusals leave is proper: so what holds of a proper graph's elimination in any column order holds of it.
 -- Assumes nothing.
-use Prim.Native.Nat.{ℕ, _+_, _-_, _<_, _≤_}
+use Prim.Native.Nat.{ℕ, _+_, _-_, _<_}
 use mathlib.Core.Path.{_≡_, ap, sym, subst, _∙_}
 use mathlib.Core.List.{List, []}
 use native.Mathlib.Omega.{arith}
@@ -8,21 +8,17 @@ use lib.ListN.{length, getD, List·getD-map}
 use Rattle.lists.specs.Entry.{nth}
 use Rattle.lists.specs.Values.{values}
 use Rattle.lists.proofs.Chain.{chain-each}
-use Rattle.lists.proofs.Rising.{rises}
 use Rattle.lists.proofs.Values.{values-length, values-at}
 use Rattle.graph.specs.declared.Code.{Code}
 use Rattle.elimination.specs.Graph.{Edge, Graph, checkCount, check, edges}
 use Rattle.elimination.specs.Held.{edgesIn, held}
 use Rattle.lent.specs.Misencoded.{graphIn}
 use Rattle.graph.specs.Parts.{Parts, variables}
-use Rattle.lent.specs.Sound.{Starts, Sound}
+use Rattle.lent.specs.Sound.{Sound}
 use Rattle.elimination.proofs.Entries.{held-checks}
+use Rattle.lent.proofs.Formed.{starts-end}
 use Rattle.lent.proofs.HeldVariables.{held-variables}
 use Rattle.graph.proofs.Proper.{Proper, vars-long}
-
--- each of k lists ends within the count
-pub starts-end : {k count : ℕ} {starts : ℕ → ℕ} → Starts k count starts → (i : ℕ) → i < k → starts (i + 1) ≤ count
-starts-end {k} {count} {starts} w i h = omega (arith, rises k starts (w .rise) (i + 1) k (omega arith) (omega arith), w .last)
 
 module _ (c : Code) (p : Parts) (w : Sound c p) where
   abbrev g : Graph

@@ -25,10 +25,13 @@ use Rattle.lent.specs.Misencoded.{graphIn}
 use Rattle.graph.specs.Parts.{Parts, places}
 use Rattle.lent.specs.Sound.{Sound}
 use Rattle.elimination.proofs.Entries.{held-checks}
-use Rattle.lent.proofs.Formed.{lists-hold}
+use Rattle.lent.proofs.Formed.{starts-end, lists-hold}
 use Rattle.peeling.specs.Peelable.{symbolsIn, edgesOn, Checked, Peelable}
 use Rattle.peeling.specs.Peeling.{symbolsOf}
-use Rattle.lent.proofs.SoundProper.{starts-end}
+
+-- where a check ends
+pub check-end : {n m : ℕ} {var row : List ℕ} → Checked n m var row → (c : ℕ) → c < m → (nth row c ≤ nth row (c + 1)) × (nth row (c + 1) ≤ nth row m)
+check-end {m = m} {row = row} w c h = (w .rise c h, rises m (nth row) (w .rise) (c + 1) m (omega arith) (le-refl m))
 
 -- the symbols of a check that stands in parts
 pub symbols-held : (n m : ℕ) (var coef row : List ℕ) (c : ℕ) → c < m → symbolsOf (held n m var coef row) c ≡ symbolsIn var (nth row c) (nth row (c + 1))
@@ -47,7 +50,7 @@ symbols-below {n} {m} {var} {row} coef w c t h l =
     let q = symbols-held n m var coef row c i in
     let k : t < nth row (c + 1) - nth row c = omega (arith, l, ap length q, values-length f (nth row (c + 1) - nth row c)) in
     subst (λ (x : ℕ). x < n) (sym (ap (λ (x : List ℕ). nth x t) q ∙ values-at f (nth row (c + 1) - nth row c) t 0 k))
-    (w .vars (nth row c + t) (omega (arith, k, rises m (nth row) (w .rise) (c + 1) m (omega arith) (le-refl m))))
+    (w .vars (nth row c + t) (omega (arith, k, check-end w c i .1)))
 
 module _ (c : Code) (p : Parts) (w : Sound c p) where
   -- the row starts end where the edges do

@@ -3,8 +3,7 @@
 use mathlib.Core.Path.{_≡_, refl, sym, ap, _∙_}
 use mathlib.Core.Logic.{⊎-elim}
 use mathlib.Core.List.{List}
-use Prim.Native.Nat.{ℕ, _+_, _-_, _<_, _≤_}
-use native.Mathlib.Nat.{le-refl}
+use Prim.Native.Nat.{ℕ, _+_, _-_, _≤_}
 use native.Mathlib.Omega.{arith}
 use borrow.Author.Needs.{needs}
 use borrow.Author.Tests.{eq-eqb, ne-eqb}
@@ -16,11 +15,11 @@ use Rattle.lists.specs.Entry.{nth}
 use Rattle.lists.specs.Times.{times}
 use Rattle.lists.specs.Total.{total}
 use Rattle.lists.proofs.Choice.{pick-true, pick-false}
-use Rattle.lists.proofs.Rising.{rises}
 use Rattle.lists.proofs.Times.{times-length}
 use Rattle.lists.proofs.Total.{total-none, total-more}
 use Rattle.lists.proofs.Values.{values-length}
-use Rattle.peeling.specs.Peelable.{symbolsIn, Checked}
+use Rattle.peeling.specs.Peelable.{symbolsIn}
+use Rattle.peeling.proofs.Peelable.{check-end}
 use Rattle.peeling.proofs.freed.count_freed.Statement.{statement}
 use Rattle.peeling.proofs.freed.count_freed.Tie as tie
 
@@ -38,17 +37,13 @@ Inv-loop n m var row unknown freed₀ c₀ freed c =
 abbrev μ-loop : tie.MeasureT-loop
 μ-loop n m var row unknown freed₀ c₀ freed c = m - c
 
--- where check c ends
-end : {n m : ℕ} {var row : List ℕ} → Checked n m var row → (c : ℕ) → c < m → (nth row c ≤ nth row (c + 1)) × (nth row (c + 1) ≤ nth row m) × (nth row m ≤ 512)
-end {n} {m} {var} {row} w c h = (w .rise c h, rises m (nth row) (w .rise) (c + 1) m (omega arith) (le-refl m), w .end)
-
 loop-again : tie.Need-loop-again Inv-loop μ-loop
 loop-again c =
     let s = c .before .before .before .before .before .before .before .before in
     let l = c .before .before .before .loop in
     let a = s .args in
     let w₀ = s .pre .0 in
-    let e = end w₀ (l .c) (c .before .before .loop-test .taken) in
+    let e = check-end w₀ (l .c) (c .before .before .loop-test .taken) in
     let f = weight (now (a .var)) (now (a .row)) (now (a .unknown)) in
     ⊎-elim
     (λ w.
@@ -96,8 +91,8 @@ count-freed-spec =
     let s = c .before .before .before .before .before .before .before .before .before .before .before in
     let l = c .before .before .before .before .before .before .loop in
     let w = s .pre .0 in
-    let e = end w (l .c) (c .before .before .before .before .before .loop-test .taken) in
-    ((e .0, omega (arith, e .1, e .2, w .var-long), λ i h. omega (arith, w .vars i (omega (arith, h, e .1)), l .inv .1)), λ v. omega (arith, l .inv .3 v, e .0, e .1, e .2)))
+    let e = check-end w (l .c) (c .before .before .before .before .before .loop-test .taken) in
+    ((e .0, omega (arith, e .1, w .end, w .var-long), λ i h. omega (arith, w .vars i (omega (arith, h, e .1)), l .inv .1)), λ v. omega (arith, l .inv .3 v, e .0, e .1, w .end)))
     (λ c. omega arith)
     (λ c. omega arith)
     loop-again

@@ -5,19 +5,18 @@ use mathlib.Core.Logic.{⊎-elim}
 use mathlib.Core.Bool.{true, false, not}
 use mathlib.Core.List.{List, []}
 use Prim.Native.Nat.{ℕ, _+_, _-_, _<_, _≤_}
-use native.Mathlib.Nat.{le-refl}
 use native.Mathlib.Omega.{arith}
 use borrow.Author.Needs.{needs}
 use denote.Ref.{now}
 use lib.ListN.{length, replicate, set, length-set}
 use Rattle.lists.specs.Entry.{nth}
-use Rattle.lists.proofs.Rising.{rises}
 use Rattle.lists.specs.Keep.{keep}
 use Rattle.elimination.specs.Graph.{Graph}
 use Rattle.elimination.specs.Held.{held}
 use Rattle.peeling.specs.Peelable.{symbolsIn, Peelable}
 use Rattle.peeling.specs.Best.{best}
 use Rattle.peeling.specs.Peeling.{oneUnknown, following, pickOf}
+use Rattle.peeling.proofs.Peelable.{check-end}
 use Rattle.peeling.proofs.State.{marked, Stands, stands-start, stands-one, stands-room, Next, stands-follows, key, stands-picks, stands-edges, stands-followed, stands-picked, stands-end}
 use Rattle.peeling.proofs.peel.peel.Statement.{statement}
 use Rattle.peeling.proofs.peel.peel.Tie as tie
@@ -155,8 +154,8 @@ peel-spec =
     let w = s .pre .0 .checks in
     let i = c .before .before .before .before .one-unknown .result in
     let h = c .before .before .before .if1 .taken in
-    let up = rises (s .args .m) (nth (now (s .args .row))) (w .rise) (i + 1) (s .args .m) (omega (arith, h)) (le-refl (s .args .m)) in
-    (w .rise i h, omega (arith, up, w .end, w .var-long), λ e l. omega (arith, w .vars e (omega (arith, l, up)), w .n-small, c .before .before .before .before .before .before .before .loop .inv .2)))
+    let e = check-end w i h in
+    (e .0, omega (arith, e .1, w .end, w .var-long), λ j l. omega (arith, w .vars j (omega (arith, l, e .1)), w .n-small, c .before .before .before .before .before .before .before .loop .inv .2)))
     (λ c. search needs)
     (λ c. search needs)
     (λ c κs.
