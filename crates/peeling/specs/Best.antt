@@ -10,7 +10,7 @@ use Rattle.lists.specs.Choice.{pick}
 use Rattle.lists.specs.Iter.{iter}
 use Rattle.lists.specs.Lowest.{lowest}
 
--- of equal ones the last: "`max_by_key` keeps the last"
+-- "a further tie goes to the highest position (`max_by_key` keeps the last)"
 abbrev pub lastOfEqual : Bool
 lastOfEqual = true
 

@@ -1,4 +1,4 @@
--- What peeling may be run on: parts of the right lengths with the edges of a graph, listed by check and by variable. Ours; only `requires` of private functions cite it.
+-- What peeling may be run on: parts of the right lengths with the edges of a graph, listed by check and by variable. Ours; only contracts of private functions cite it.
 -- Assumes nothing.
 use Prim.Native.Nat.{ℕ, _+_, _-_, _<_, _≤_}
 use mathlib.Core.Path.{_≡_}

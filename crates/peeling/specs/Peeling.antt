@@ -1,5 +1,4 @@
--- Peeling, with nothing known at first: while some check has exactly one unknown symbol, that symbol follows; when none has, the unknown symbol that frees the most
--- checks is picked. Document 01, part 3; nb.rs, `peel_picks`.
+-- Peeling: which symbols to give so that every other follows from the checks, one check at a time. Document 01, part 3; nb.rs, `peel_picks`.
 -- Assumes nothing.
 use Prim.Native.Nat.{ℕ}
 use mathlib.Core.Bool.{Bool, true, false, not, _&&_}
@@ -49,18 +48,21 @@ pub record Peeled : Type 0 where
   pub known : Known
   pub picks : List ℕ
 
+-- a symbol follows from its check
 unfoldable pub followed : Graph → Peeled → Peeled
 followed g s = record { known = changed (s .known) (following g (s .known)) true; picks = s .picks }
 
+-- a symbol is picked
 unfoldable pub picked : Bool → Graph → List ℤ → Peeled → Peeled
 picked last g prefer s =
     let v = pickOf last g prefer (s .known) in
     record { known = changed (s .known) v true; picks = s .picks ++ v ∷ [] }
 
+-- while some check has exactly one unknown symbol, that symbol follows; when none has, the unknown symbol that frees the most checks is picked
 unfoldable pub peelTurn : Bool → Graph → List ℤ → Peeled → Peeled
 peelTurn last g prefer s = pick (ltb (oneUnknown g (s .known)) (checkCount g)) (followed g s) (picked last g prefer s)
 
--- after k turns; each makes one symbol known
+-- with nothing known at first, after k turns; each makes one symbol known
 unfoldable pub peeled : Bool → Graph → List ℤ → ℕ → Peeled
 peeled last g prefer k = iter k (λ _ s. peelTurn last g prefer s) (record { known = λ _. false; picks = [] })
 
