@@ -4,7 +4,7 @@ ghost use Prim.Native.Nat.{_<_};
 use crate::print;
 
 // How many there are.
-pub const CALLS: usize = 12;
+pub const CALLS: usize = 14;
 
 pub enum Call {
     Mul,
@@ -13,6 +13,8 @@ pub enum Call {
     EvenDegrees,
     New,
     OnCode(Ask),
+    PeelPicks,
+    WithPeeledInfo,
 }
 
 // The calls on a code that is lent.
@@ -54,6 +56,12 @@ pub fn call_named(word: &[u8]) -> Named {
     if check::same(word, b"new") {
         return Named::Is(Call::New);
     }
+    if check::same(word, b"peel_picks") {
+        return Named::Is(Call::PeelPicks);
+    }
+    if check::same(word, b"with_peeled_info") {
+        return Named::Is(Call::WithPeeledInfo);
+    }
     ask_named(word)
 }
 
@@ -90,6 +98,8 @@ pub fn print_name(call: Call) {
         Call::EvenDegrees => print::text(b"even_degrees"),
         Call::New => print::text(b"new"),
         Call::OnCode(ask) => print_name_of_ask(ask),
+        Call::PeelPicks => print::text(b"peel_picks"),
+        Call::WithPeeledInfo => print::text(b"with_peeled_info"),
     }
 }
 
@@ -120,6 +130,8 @@ pub fn print_answer(call: Call, place: u64) {
         },
         Call::New => print_answer_of_new(place),
         Call::OnCode(ask) => print_answer_of_ask(ask, place),
+        Call::PeelPicks => print_answer_of_picks(place),
+        Call::WithPeeledInfo => print_answer_of_peeled(place),
     }
 }
 
@@ -154,6 +166,29 @@ fn print_answer_of_ask(ask: Ask, place: u64) {
     }
 }
 
+fn print_answer_of_picks(place: u64) {
+    match place {
+        1 => print::text(b", number"),
+        2 => print::text(b", count of picks"),
+        3 => print::text(b", digest of picks"),
+        4 => print::text(b", digest of the work part h"),
+        _ => print::text(b", digest of the work part pivots"),
+    }
+}
+
+fn print_answer_of_peeled(place: u64) {
+    match place {
+        1 => print::text(b", number"),
+        2 => print::text(b", rank"),
+        3 => print::text(b", digest of order"),
+        4 => print::text(b", digest of parity"),
+        5 => print::text(b", digest of info"),
+        6 => print::text(b", digest of a"),
+        7 => print::text(b", digest of the work part h"),
+        _ => print::text(b", digest of the work part pivots"),
+    }
+}
+
 // What a call finds beside its output part. `encode` finds nothing.
 fn print_found(ask: Ask) {
     match ask {
@@ -179,7 +214,7 @@ fn print_part(ask: Ask) {
 
 // The call's place in a tally.
 pub fn index(call: Call) -> usize
-    ensures { λ r. ⌜ r < 12 ⌝ }
+    ensures { λ r. ⌜ r < 14 ⌝ }
 {
     match call {
         Call::Mul => 0,
@@ -188,11 +223,13 @@ pub fn index(call: Call) -> usize
         Call::EvenDegrees => 3,
         Call::New => 4,
         Call::OnCode(ask) => index_of_ask(ask),
+        Call::PeelPicks => 12,
+        Call::WithPeeledInfo => 13,
     }
 }
 
 fn index_of_ask(ask: Ask) -> usize
-    ensures { λ r. ⌜ r < 12 ⌝ }
+    ensures { λ r. ⌜ r < 14 ⌝ }
 {
     match ask {
         Ask::Encode => 5,

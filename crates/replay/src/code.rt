@@ -128,7 +128,7 @@ fn as_built(
     }
 }
 
-fn number_of(made: NewCode) -> u64 {
+pub fn number_of(made: NewCode) -> u64 {
     match made {
         NewCode::Built(_) => 0,
         NewCode::Refused(number) => number as u64,
@@ -136,7 +136,7 @@ fn number_of(made: NewCode) -> u64 {
 }
 
 // Numbers 0 where there is none.
-fn code_of(made: NewCode) -> Code {
+pub fn code_of(made: NewCode) -> Code {
     match made {
         NewCode::Built(code) => code,
         NewCode::Refused(_) => Code {

@@ -8,6 +8,8 @@ mod field_calls;
 mod graph_calls;
 mod list;
 mod on_code;
+mod peeling_calls;
+mod preferences;
 mod print;
 mod run;
 mod symbols;
@@ -19,6 +21,7 @@ fn main() {
     run::replay(b"field.txt");
     run::replay(b"graph.txt");
     run::replay(b"words.txt");
+    run::replay(b"peeling.txt");
     // Wrong on purpose. What is printed of it shows that a wrong case would be seen in the others.
     run::replay(b"wrong.txt");
 }

@@ -8,6 +8,7 @@ use crate::field_calls;
 use crate::graph_calls;
 use crate::list;
 use crate::list::Cursor;
+use crate::peeling_calls;
 use crate::print;
 use crate::tally;
 use crate::tally::Tally;
@@ -94,6 +95,8 @@ fn replay_call(name: &[u8], line: u64, call: Call, numbers: &[u64]) -> Outcome {
         Call::EvenDegrees => graph_calls::even_degrees(name, line, numbers),
         Call::New => graph_calls::new(name, line, numbers),
         Call::OnCode(ask) => replay_ask(name, line, ask, numbers),
+        Call::PeelPicks => peeling_calls::peel_picks(name, line, numbers),
+        Call::WithPeeledInfo => peeling_calls::with_peeled_info(name, line, numbers),
     }
 }
 

@@ -213,7 +213,7 @@ pub fn info_positions(name: &[u8], line: u64, numbers: &[u64]) -> Outcome {
 }
 
 // CODE DAMAGE
-fn damaged_code(l: &[u64]) -> Built
+pub fn damaged_code(l: &[u64]) -> Built
     requires { ⌜ length (now l) ≡ 9 ⌝ }
 {
     damage::damaged(code::of_line(&l[0..6]), l[6], l[7], l[8])
