@@ -13,7 +13,6 @@ pub enum Call {
     EvenDegrees,
     New,
     OnCode(Ask),
-    PeelPicks,
     WithPeeledInfo,
 }
 
@@ -26,6 +25,7 @@ pub enum Ask {
     K,
     N,
     InfoPositions,
+    PeelPicks,
 }
 
 pub enum Named {
@@ -56,9 +56,6 @@ pub fn call_named(word: &[u8]) -> Named {
     if check::same(word, b"new") {
         return Named::Is(Call::New);
     }
-    if check::same(word, b"peel_picks") {
-        return Named::Is(Call::PeelPicks);
-    }
     if check::same(word, b"with_peeled_info") {
         return Named::Is(Call::WithPeeledInfo);
     }
@@ -87,6 +84,9 @@ fn ask_named(word: &[u8]) -> Named {
     if check::same(word, b"info_positions") {
         return Named::Is(Call::OnCode(Ask::InfoPositions));
     }
+    if check::same(word, b"peel_picks") {
+        return Named::Is(Call::OnCode(Ask::PeelPicks));
+    }
     Named::Unknown
 }
 
@@ -98,7 +98,6 @@ pub fn print_name(call: Call) {
         Call::EvenDegrees => print::text(b"even_degrees"),
         Call::New => print::text(b"new"),
         Call::OnCode(ask) => print_name_of_ask(ask),
-        Call::PeelPicks => print::text(b"peel_picks"),
         Call::WithPeeledInfo => print::text(b"with_peeled_info"),
     }
 }
@@ -112,6 +111,7 @@ fn print_name_of_ask(ask: Ask) {
         Ask::K => print::text(b"k"),
         Ask::N => print::text(b"n"),
         Ask::InfoPositions => print::text(b"info_positions"),
+        Ask::PeelPicks => print::text(b"peel_picks"),
     }
 }
 
@@ -130,7 +130,6 @@ pub fn print_answer(call: Call, place: u64) {
         },
         Call::New => print_answer_of_new(place),
         Call::OnCode(ask) => print_answer_of_ask(ask, place),
-        Call::PeelPicks => print_answer_of_picks(place),
         Call::WithPeeledInfo => print_answer_of_peeled(place),
     }
 }
@@ -140,19 +139,36 @@ fn print_answer_of_new(place: u64) {
         1 => print::text(b", number"),
         2 => print::text(b", count of edges"),
         3 => print::text(b", rank"),
-        4 => print::text(b", digest of var"),
-        5 => print::text(b", digest of coef"),
-        6 => print::text(b", digest of row"),
-        7 => print::text(b", digest of start"),
-        8 => print::text(b", digest of col"),
-        9 => print::text(b", digest of order"),
-        10 => print::text(b", digest of parity"),
-        11 => print::text(b", digest of info"),
-        12 => print::text(b", digest of a"),
+        4..=12 => print_part_of_code(place - 3),
         13 => print::text(b", digest of the work part chk"),
         14 => print::text(b", digest of the work part load"),
         15 => print::text(b", digest of the work part own"),
         _ => print::text(b", digest of the work part deg"),
+    }
+}
+
+fn print_answer_of_peeled(place: u64) {
+    match place {
+        1 => print::text(b", number"),
+        2 => print::text(b", rank"),
+        3..=6 => print_part_of_code(place + 3),
+        7 => print::text(b", digest of the work part h"),
+        _ => print::text(b", digest of the work part pivots"),
+    }
+}
+
+// The parts as a line's damage counts them.
+fn print_part_of_code(part: u64) {
+    match part {
+        1 => print::text(b", digest of var"),
+        2 => print::text(b", digest of coef"),
+        3 => print::text(b", digest of row"),
+        4 => print::text(b", digest of start"),
+        5 => print::text(b", digest of col"),
+        6 => print::text(b", digest of order"),
+        7 => print::text(b", digest of parity"),
+        8 => print::text(b", digest of info"),
+        _ => print::text(b", digest of a"),
     }
 }
 
@@ -162,29 +178,6 @@ fn print_answer_of_ask(ask: Ask, place: u64) {
         2 => print_found(ask),
         3 => print_part(ask),
         4 => print::text(b", digest of the work part h"),
-        _ => print::text(b", digest of the work part pivots"),
-    }
-}
-
-fn print_answer_of_picks(place: u64) {
-    match place {
-        1 => print::text(b", number"),
-        2 => print::text(b", count of picks"),
-        3 => print::text(b", digest of picks"),
-        4 => print::text(b", digest of the work part h"),
-        _ => print::text(b", digest of the work part pivots"),
-    }
-}
-
-fn print_answer_of_peeled(place: u64) {
-    match place {
-        1 => print::text(b", number"),
-        2 => print::text(b", rank"),
-        3 => print::text(b", digest of order"),
-        4 => print::text(b", digest of parity"),
-        5 => print::text(b", digest of info"),
-        6 => print::text(b", digest of a"),
-        7 => print::text(b", digest of the work part h"),
         _ => print::text(b", digest of the work part pivots"),
     }
 }
@@ -199,6 +192,7 @@ fn print_found(ask: Ask) {
         Ask::K => print::text(b", k"),
         Ask::N => print::text(b", n"),
         Ask::InfoPositions => print::text(b", count of positions"),
+        Ask::PeelPicks => print::text(b", count of picks"),
     }
 }
 
@@ -208,6 +202,7 @@ fn print_part(ask: Ask) {
         Ask::Encode => print::text(b", digest of word"),
         Ask::InfoOf => print::text(b", digest of syms"),
         Ask::InfoPositions => print::text(b", digest of positions"),
+        Ask::PeelPicks => print::text(b", digest of picks"),
         _ => (),
     }
 }
@@ -223,7 +218,6 @@ pub fn index(call: Call) -> usize
         Call::EvenDegrees => 3,
         Call::New => 4,
         Call::OnCode(ask) => index_of_ask(ask),
-        Call::PeelPicks => 12,
         Call::WithPeeledInfo => 13,
     }
 }
@@ -239,5 +233,6 @@ fn index_of_ask(ask: Ask) -> usize
         Ask::K => 9,
         Ask::N => 10,
         Ask::InfoPositions => 11,
+        Ask::PeelPicks => 12,
     }
 }

@@ -4,6 +4,7 @@
 ghost use mathlib.Core.Path.{_≡_};
 ghost use Prim.Native.Nat.{_≤_};
 ghost use lib.ListN.{length};
+use crate::cases::Ask;
 use crate::cases::Call;
 use crate::cases::Outcome;
 use crate::code;
@@ -39,11 +40,16 @@ pub fn peel_picks(name: &[u8], line: u64, numbers: &[u64]) -> Outcome {
     let prefer = given.prefer;
     let mut picks = [1u16; 257];
     let ours = picked(built, prefer, &mut picks[0..n]);
-    let number = numbers[11];
-    let large = digest::large_work(number);
-    let small = digest::small_work(number);
-    let listed = [number, numbers[12], numbers[13], large, small];
-    compare::compare_all(name, line, Call::PeelPicks, &numbers[0..11], &ours, &listed)
+    word_calls::compared(
+        name,
+        line,
+        Ask::PeelPicks,
+        &numbers[0..11],
+        ours,
+        numbers[11],
+        numbers[12],
+        numbers[13],
+    )
 }
 
 // with_peeled_info CODE DAMAGE RULE SHIFT NUMBER RANK ORDER PARITY INFO A
@@ -97,7 +103,6 @@ fn code_and_preferences(l: &[u64]) -> Given
     }
 }
 
-// In the order of `cases::print_answer_of_picks`.
 fn picked(b: Built, prefer: [i64; 257], picks: &mut [u16]) -> [u64; 5]
     requires { ⌜ length (now picks) ≤ 257 ⌝ }
 {

@@ -95,7 +95,6 @@ fn replay_call(name: &[u8], line: u64, call: Call, numbers: &[u64]) -> Outcome {
         Call::EvenDegrees => graph_calls::even_degrees(name, line, numbers),
         Call::New => graph_calls::new(name, line, numbers),
         Call::OnCode(ask) => replay_ask(name, line, ask, numbers),
-        Call::PeelPicks => peeling_calls::peel_picks(name, line, numbers),
         Call::WithPeeledInfo => peeling_calls::with_peeled_info(name, line, numbers),
     }
 }
@@ -109,5 +108,6 @@ fn replay_ask(name: &[u8], line: u64, ask: Ask, numbers: &[u64]) -> Outcome {
         Ask::K => word_calls::k(name, line, numbers),
         Ask::N => word_calls::n(name, line, numbers),
         Ask::InfoPositions => word_calls::info_positions(name, line, numbers),
+        Ask::PeelPicks => peeling_calls::peel_picks(name, line, numbers),
     }
 }

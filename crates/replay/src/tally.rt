@@ -65,7 +65,7 @@ pub fn print_tally(name: &[u8], t: Tally) {
     print_count(name, t, Call::OnCode(Ask::K));
     print_count(name, t, Call::OnCode(Ask::N));
     print_count(name, t, Call::OnCode(Ask::InfoPositions));
-    print_count(name, t, Call::PeelPicks);
+    print_count(name, t, Call::OnCode(Ask::PeelPicks));
     print_count(name, t, Call::WithPeeledInfo);
     if t.all == 0 {
         print::about(name, b": no case\n");

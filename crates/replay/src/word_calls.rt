@@ -265,7 +265,7 @@ fn ask_of(b: Built, ask: Ask, n: usize, symbols: [u8; 257], count: usize) -> Ask
 }
 
 // With what the line lists: NUMBER, what a call finds and the digest of its output part. The digests of the work parts follow from NUMBER.
-fn compared(
+pub fn compared(
     name: &[u8],
     line: u64,
     ask: Ask,
