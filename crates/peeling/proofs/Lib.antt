@@ -8,3 +8,4 @@ pub mod Counts
 pub mod Learnt
 pub mod State
 pub mod Recoded
+pub mod Theorem

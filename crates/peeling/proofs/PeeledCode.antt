@@ -2,7 +2,7 @@
 -- Assumes nothing.
 use Prim.Native.Nat.{ℕ, _<_}
 use mathlib.Core.Path.{_≡_, refl, ap, sym, subst, _∙_}
-use mathlib.Core.Bool.{false}
+use mathlib.Core.Bool.{Bool, false}
 use mathlib.Core.List.{List}
 use mathlib.Core.Logic.{_↔_}
 use native.Mathlib.Omega.{arith}
@@ -15,13 +15,12 @@ use Rattle.calls.specs.Parts.{padded}
 use Rattle.calls.specs.Refusal.{misfit}
 use Rattle.calls.proofs.Refusal.{pass, one-fail, one-miss, one-none}
 use Rattle.graph.specs.declared.Code.{Code}
-use Rattle.elimination.specs.Elimination.{State, reduced, infos}
+use Rattle.elimination.specs.Elimination.{State, reduced, infos, table}
 use Rattle.elimination.specs.Graph.{Graph}
 use Rattle.elimination.specs.Held.{held}
 use Rattle.lent.specs.LentCode.{NotRefused}
 use Rattle.lent.specs.Malformed.{malformed, unusedHold}
 use Rattle.lent.specs.Misencoded.{graphIn}
-use Rattle.elimination.specs.Elimination.{table}
 use Rattle.graph.specs.Parts.{Parts}
 use Rattle.graph.specs.Sizes.{tooLarge, codeLengths}
 use Rattle.lent.specs.Sound.{Fits, Formed, Encoded, Sound}
@@ -32,7 +31,6 @@ use Rattle.lent.proofs.SoundPasses.{sound-passes}
 use Rattle.words.specs.Encoding.{encoding, infoSymbols}
 use Rattle.words.specs.Word.{Symbols}
 use Rattle.words.proofs.Theorem.{same-words}
-use Rattle.peeling.specs.Best.{lastOfEqual}
 use Rattle.peeling.specs.Peeling.{picksOf}
 use Rattle.peeling.specs.WithPeeledInfo.{orderOf, codeIn, partsIn}
 use Rattle.peeling.proofs.Peelable.{symbols-inside}
@@ -141,28 +139,28 @@ module _ (c : Code) (p : Parts) (r : NotRefused c p) (order : List ℕ) (long : 
 
 -- ---- in the order that peeling gives
 
-module _ (c : Code) (p : Parts) (prefer : List ℤ) (w : Sound c p) where
-  below : (t : ℕ) → t < length (picksOf lastOfEqual (graphIn c p) prefer) → nth (picksOf lastOfEqual (graphIn c p) prefer) t < c .n
+module _ (last : Bool) (c : Code) (p : Parts) (prefer : List ℤ) (w : Sound c p) where
+  below : (t : ℕ) → t < length (picksOf last (graphIn c p) prefer) → nth (picksOf last (graphIn c p) prefer) t < c .n
   unfolding held
-  below = picks-inside lastOfEqual (graphIn c p) prefer (symbols-inside c p w)
+  below = picks-inside last (graphIn c p) prefer (symbols-inside c p w)
 
-  pub peeled-long : length (orderOf c p prefer) ≡ c .n
+  pub peeled-long : length (orderOf last c p prefer) ≡ c .n
   unfolding orderOf
-  peeled-long = order-length (c .n) (picksOf lastOfEqual (graphIn c p) prefer) below (picks-distinct lastOfEqual (graphIn c p) prefer (symbols-inside c p w))
+  peeled-long = order-length (c .n) (picksOf last (graphIn c p) prefer) below (picks-distinct last (graphIn c p) prefer (symbols-inside c p w))
 
-  pub peeled-once : EachOnce (c .n) (nth (orderOf c p prefer))
+  pub peeled-once : EachOnce (c .n) (nth (orderOf last c p prefer))
   unfolding orderOf
-  peeled-once = order-once (c .n) (picksOf lastOfEqual (graphIn c p) prefer) below (picks-distinct lastOfEqual (graphIn c p) prefer (symbols-inside c p w))
+  peeled-once = order-once (c .n) (picksOf last (graphIn c p) prefer) below (picks-distinct last (graphIn c p) prefer (symbols-inside c p w))
 
-module _ (c : Code) (p : Parts) (prefer : List ℤ) (r : NotRefused c p) where
-  pub peeled-not-refused : NotRefused (codeIn c p (orderOf c p prefer)) (partsIn c p (orderOf c p prefer))
-  peeled-not-refused = recoded-not-refused c p r (orderOf c p prefer) (peeled-long c p prefer (sound c p r)) (peeled-once c p prefer (sound c p r))
+module _ (last : Bool) (c : Code) (p : Parts) (prefer : List ℤ) (r : NotRefused c p) where
+  pub peeled-not-refused : NotRefused (codeIn c p (orderOf last c p prefer)) (partsIn c p (orderOf last c p prefer))
+  peeled-not-refused = recoded-not-refused c p r (orderOf last c p prefer) (peeled-long last c p prefer (sound c p r)) (peeled-once last c p prefer (sound c p r))
 
   -- symbols are the encoding of their own information symbols in the old order exactly when they are in the new
   pub peeled-same-words : (x : List ℕ) → Symbols (c .n) x
       → (x ≡ encoding (graphIn c p) (p .order) (infoSymbols (graphIn c p) (p .order) x))
-      ↔ (x ≡ encoding (graphIn c p) (partsIn c p (orderOf c p prefer) .order) (infoSymbols (graphIn c p) (partsIn c p (orderOf c p prefer) .order) x))
+      ↔ (x ≡ encoding (graphIn c p) (partsIn c p (orderOf last c p prefer) .order) (infoSymbols (graphIn c p) (partsIn c p (orderOf last c p prefer) .order) x))
   unfolding codeIn partsIn
   peeled-same-words x y =
-      same-words c (codeIn c p (orderOf c p prefer)) p (partsIn c p (orderOf c p prefer)) r peeled-not-refused
-      (sym (recoded-graph c p r (orderOf c p prefer) (peeled-long c p prefer (sound c p r)) (peeled-once c p prefer (sound c p r)))) x y
+      same-words c (codeIn c p (orderOf last c p prefer)) p (partsIn c p (orderOf last c p prefer)) r peeled-not-refused
+      (sym (recoded-graph c p r (orderOf last c p prefer) (peeled-long last c p prefer (sound c p r)) (peeled-once last c p prefer (sound c p r)))) x y

@@ -20,11 +20,12 @@ use Rattle.graph.specs.declared.NewCode.the-variants.{Built, Refused}
 use Rattle.graph.specs.Parts.{Parts}
 use Rattle.lent.specs.LentCode.{MatrixWork, matrixLeft, refusals}
 use Rattle.lent.specs.Misencoded.{graphIn}
+use Rattle.peeling.specs.Best.{lastOfEqual}
 use Rattle.peeling.specs.WithPeeledInfo.{orderOf, codeIn, partsIn, Recoded, withPeeledInfo}
 
 module _ (c : Code) (p : Parts) (prefer : List ℤ) (w : MatrixWork) {d : ℕ} (e : d ≡ refusal (refusals c p w (misfit ((length prefer, c .n) ∷ [])))) where
   abbrev order : List ℕ
-  order = orderOf c p prefer
+  order = orderOf lastOfEqual c p prefer
 
   abbrev ended : ℕ → Recoded
   ended k = record { answer = answered k Refused (Built (codeIn c p order)); code = written k p (partsIn c p order); work = matrixLeft k w }

@@ -64,10 +64,6 @@ module _ (last : Bool) (g : Graph) (prefer : List ℤ) (inside : (c t : ℕ) →
       (record { symbol = pickOf last g prefer (s .known); low = r .0; new = r .1; knows = refl; picks = inr refl }))
       (less-or-not (oneUnknown g (s .known)) (checkCount g))
 
-  pub turn-symbol : (s : Peeled) (u : ℕ) → u < g .n → s .known u ≡ false
-      → (v : ℕ) × (v < g .n) × (s .known v ≡ false) × (peelTurn last g prefer s .known ≡ changed (s .known) v true)
-  turn-symbol s u h e = let w = turned s u h e in (w .symbol, w .low, w .new, w .knows)
-
   -- ---- k turns
 
   abbrev state : ℕ → Peeled
@@ -178,10 +174,6 @@ module _ (last : Bool) (g : Graph) (prefer : List ℤ) (inside : (c t : ℕ) →
       subst Picked (sym state-none)
       (record { low = λ x l. absurd (omega (arith, times-none x)); known = λ x l. absurd (omega (arith, times-none x)); once = λ x. omega (arith, times-none x) })
   state-picked (suc k) h = turn-picked (state k) (state (suc k)) (one-left k h (known-count k (omega arith))) (state-picked k (omega arith))
-
-  -- a pick is known afterwards
-  pub picks-known : (k t : ℕ) → k ≤ g .n → t < length (peeled last g prefer k .picks) → peeled last g prefer k .known (nth (peeled last g prefer k .picks) t) ≡ true
-  picks-known k t h l = state-picked k h .known (nth (state k .picks) t) (times-at (state k .picks) t l)
 
   pub picks-distinct : (x : ℕ) → times x (picksOf last g prefer) ≤ 1
   unfolding picksOf

@@ -1,6 +1,7 @@
 -- The call with_peeled_info: the lent code in the column order that peeling gives, its graph as it was. Document 01, part 2; nb.rs, `with_peeled_info`.
 -- Assumes nothing.
 use Prim.Native.Nat.{ℕ}
+use mathlib.Core.Bool.{Bool}
 use mathlib.Core.List.{List, [], _∷_}
 use lib.IntN.{ℤ}
 use lib.ListN.{length}
@@ -17,9 +18,9 @@ use Rattle.peeling.specs.Best.{lastOfEqual}
 use Rattle.peeling.specs.Peeling.{picksOf}
 use Rattle.peeling.specs.PeeledOrder.{peeledOrder}
 
--- the column order that peeling gives a lent code
-unfoldable pub orderOf : Code → Parts → List ℤ → List ℕ
-orderOf c p prefer = peeledOrder (c .n) (picksOf lastOfEqual (graphIn c p) prefer)
+-- the column order that peeling gives a lent code; `last` as in Best
+unfoldable pub orderOf : Bool → Code → Parts → List ℤ → List ℕ
+orderOf last c p prefer = peeledOrder (c .n) (picksOf last (graphIn c p) prefer)
 
 -- a lent code in another column order: its numbers, and its parts
 unfoldable pub codeIn : Code → Parts → List ℕ → Code
@@ -36,7 +37,7 @@ pub record Recoded : Type 0 where
 unfoldable pub withPeeledInfo : Code → Parts → List ℤ → MatrixWork → Recoded
 withPeeledInfo c p prefer work =
     let k = refusal (refusals c p work (misfit ((length prefer, c .n) ∷ []))) in
-    let order = orderOf c p prefer in
+    let order = orderOf lastOfEqual c p prefer in
     record {
       answer = answered k Refused (Built (codeIn c p order));
       code = written k p (partsIn c p order);

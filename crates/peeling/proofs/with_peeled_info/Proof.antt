@@ -19,6 +19,7 @@ use Rattle.graph.specs.Parts.{Parts, lent}
 use Rattle.lent.specs.LentCode.{MatrixWork, lentMatrix, matrixLeft, refusals}
 use Rattle.lent.specs.Sound.{Sound}
 use Rattle.lent.proofs.Sound.{passed, work-fits, sound-encodable}
+use Rattle.peeling.specs.Best.{lastOfEqual}
 use Rattle.peeling.specs.WithPeeledInfo.{orderOf}
 use Rattle.peeling.proofs.Peelable.{peelable}
 use Rattle.peeling.proofs.PeeledCode.{peeled-long, peeled-once}
@@ -52,16 +53,16 @@ long c z = alike ((length (now (S c .args .prefer)), S c .args .code .n) ∷ [])
 
 -- the order that peeling gives, and how it stands in its part
 abbrev new : tie.Start → List ℕ
-new s = orderOf (s .args .code) (parts s) (now (s .args .prefer))
+new s = orderOf lastOfEqual (s .args .code) (parts s) (now (s .args .prefer))
 
 module _ (c : tie.After-refused) (z : c .refused .result ≡ 0) where
   new-fits : length (new (S c)) < 257
-  new-fits = omega (arith, peeled-long (S c .args .code) (parts (S c)) (now (S c .args .prefer)) (code c z .0), code c z .0 .fits .n-small)
+  new-fits = omega (arith, peeled-long lastOfEqual (S c .args .code) (parts (S c)) (now (S c .args .prefer)) (code c z .0), code c z .0 .fits .n-small)
 
   front : (part : List ℕ) → part ≡ padded 256 0 (new (S c)) → (t : ℕ) → t < S c .args .code .n → nth part t ≡ nth (new (S c)) t
   front part e t h =
       ap (λ (l : List ℕ). nth l t) e
-      ∙ padded-in 256 0 (new (S c)) (omega (arith, new-fits)) t 0 (omega (arith, h, peeled-long (S c .args .code) (parts (S c)) (now (S c .args .prefer)) (code c z .0)))
+      ∙ padded-in 256 0 (new (S c)) (omega (arith, new-fits)) t 0 (omega (arith, h, peeled-long lastOfEqual (S c .args .code) (parts (S c)) (now (S c .args .prefer)) (code c z .0)))
 
   encodable : (part : List ℕ) → part ≡ padded 256 0 (new (S c)) → Encodable (S c .args .code .n) (S c .args .code .m) (now (S c .args .var)) (now (S c .args .coef)) (now (S c .args .row)) part
   encodable part e =
@@ -72,7 +73,7 @@ module _ (c : tie.After-refused) (z : c .refused .result ≡ 0) where
         vars = w .vars;
         coefs = w .coefs;
         order-long = ap length e ∙ padded-length 256 0 (new (S c)) (omega (arith, new-fits));
-        columns = λ t h. subst (λ (k : ℕ). k < S c .args .code .n) (sym (front part e t h)) (peeled-once (S c .args .code) (parts (S c)) (now (S c .args .prefer)) (code c z .0) .inside t h);
+        columns = λ t h. subst (λ (k : ℕ). k < S c .args .code .n) (sym (front part e t h)) (peeled-once lastOfEqual (S c .args .code) (parts (S c)) (now (S c .args .prefer)) (code c z .0) .inside t h);
       }
 
 returns : tie.Need-returns
