@@ -3,11 +3,11 @@
 -- Assumes nothing.
 use Prim.Native.Nat.{ℕ, _<_}
 use mathlib.Core.Path.{_≡_}
-use mathlib.Core.Bool.{Bool, true}
+use mathlib.Core.Bool.{Bool, true, false}
 use mathlib.Core.List.{List}
 use mathlib.Core.Logic.{_↔_}
-use lib.IntN.{ℤ}
-use lib.ListN.{length}
+use lib.IntN.{ℤ, pos}
+use lib.ListN.{length, getD}
 use Rattle.lists.specs.EachOnce.{EachOnce}
 use Rattle.lists.specs.Entry.{nth}
 use Rattle.lists.proofs.Times.{times-distinct}
@@ -20,8 +20,9 @@ use Rattle.lent.specs.Misencoded.{graphIn}
 use Rattle.lent.proofs.Sound.{sound}
 use Rattle.words.specs.Encoding.{encoding, infoSymbols}
 use Rattle.words.specs.Word.{Symbols}
-use Rattle.peeling.specs.Peeling.{peeled, picksOf}
+use Rattle.peeling.specs.Peeling.{Known, freed, pickOf, peeled, picksOf}
 use Rattle.peeling.specs.WithPeeledInfo.{orderOf, codeIn, partsIn}
+use Rattle.peeling.proofs.BestSymbol.{NotBetter, best-most}
 use Rattle.peeling.proofs.Peelable.{symbols-inside}
 use Rattle.peeling.proofs.PeeledCode.{peeled-once, peeled-not-refused, peeled-same-words}
 use Rattle.peeling.proofs.Turns.{all-known, picks-distinct, picks-inside}
@@ -49,6 +50,8 @@ module _ (last : Bool) (c : Code) (p : Parts) (prefer : List ℤ) where
     pub distinct : (s t : ℕ) → s < length picks → t < length picks → nth picks s ≡ nth picks t → s ≡ t
     -- peeling ends with every symbol known
     pub known : (v : ℕ) → v < c .n → peeled last g prefer (c .n) .known v ≡ true
+    -- whatever is known, no unknown symbol is better than the one that is picked
+    pub best : (known : Known) (w : ℕ) → w < c .n → known w ≡ false → NotBetter last (λ v. (freed g known v, getD prefer v (pos 0))) w (pickOf last g prefer known)
     -- the new column order holds each position once
     pub each-once : EachOnce (c .n) (nth order)
     -- the peeled code is not refused
@@ -58,13 +61,14 @@ module _ (last : Bool) (c : Code) (p : Parts) (prefer : List ℤ) where
         → (x ≡ encoding g (p .order) (infoSymbols g (p .order) x)) ↔ (x ≡ encoding (graphIn d q) (q .order) (infoSymbols (graphIn d q) (q .order) x))
 
   pub peeled-well : NotRefused c p → PeeledWell
-  unfolding held codeIn partsIn
+  unfolding pickOf held codeIn partsIn
   peeled-well r =
       let inside = symbols-inside c p (sound c p r) in
       record {
         positions = picks-inside last g prefer inside;
         distinct = times-distinct picks (picks-distinct last g prefer inside);
         known = all-known last g prefer inside;
+        best = λ known. best-most last (c .n) known (λ v. (freed g known v, getD prefer v (pos 0)));
         each-once = peeled-once last c p prefer (sound c p r);
         not-refused = peeled-not-refused last c p prefer r;
         same-words = peeled-same-words last c p prefer r;
