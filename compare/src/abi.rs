@@ -45,16 +45,17 @@ unsafe extern "C" {
     ) -> u8;
 }
 
-/// Declares the calls on a lent code. Before a call's own arguments stand those of the code, after
-/// them the work parts.
+/// Declares calls on a lent code, its rank being lent as said, and by the pointers said the parts that
+/// go by its column order. Before a call's own arguments stand those of the code, after them the work
+/// parts.
 macro_rules! calls_on_code {
-    ($(fn $name:ident($($own:ident: $kind:ty),*);)*) => {
+    (rank: $rank:ty, encoder: *$encoder:tt; $(fn $name:ident($($own:ident: $kind:ty),*);)*) => {
         unsafe extern "C" {
             $(fn $name(
                 n: usize,
                 m: usize,
                 edges: usize,
-                rank: usize,
+                rank: $rank,
                 var: *const u16,
                 var_len: usize,
                 coef: *const u8,
@@ -65,13 +66,13 @@ macro_rules! calls_on_code {
                 start_len: usize,
                 col: *const u16,
                 col_len: usize,
-                order: *const u16,
+                order: *$encoder u16,
                 order_len: usize,
-                parity: *const u16,
+                parity: *$encoder u16,
                 parity_len: usize,
-                info: *const u16,
+                info: *$encoder u16,
                 info_len: usize,
-                a: *const u8,
+                a: *$encoder u8,
                 a_len: usize,
                 $($own: $kind,)*
                 h: *mut u8,
@@ -84,6 +85,7 @@ macro_rules! calls_on_code {
 }
 
 calls_on_code! {
+    rank: usize, encoder: *const;
     fn hazgunek_encode(syms: *const u8, syms_len: usize, word: *mut u8, word_len: usize);
     fn hazgunek_info_of(
         word: *const u8,
@@ -106,37 +108,9 @@ calls_on_code! {
     );
 }
 
-unsafe extern "C" {
-    fn hazgunek_with_peeled_info(
-        n: usize,
-        m: usize,
-        edges: usize,
-        rank: *mut usize,
-        var: *const u16,
-        var_len: usize,
-        coef: *const u8,
-        coef_len: usize,
-        row: *const u16,
-        row_len: usize,
-        start: *const u16,
-        start_len: usize,
-        col: *const u16,
-        col_len: usize,
-        order: *mut u16,
-        order_len: usize,
-        parity: *mut u16,
-        parity_len: usize,
-        info: *mut u16,
-        info_len: usize,
-        a: *mut u8,
-        a_len: usize,
-        prefer: *const i64,
-        prefer_len: usize,
-        h: *mut u8,
-        h_len: usize,
-        pivots: *mut u16,
-        pivots_len: usize,
-    ) -> u8;
+calls_on_code! {
+    rank: *mut usize, encoder: *mut;
+    fn hazgunek_with_peeled_info(prefer: *const i64, prefer_len: usize);
 }
 
 // What the library asks of every pointer (not null, as many elements as said, no overlap) is true
@@ -214,117 +188,8 @@ pub fn new(n: usize, m: usize, seed: u64, degrees: &[usize], parts: NewParts) ->
     }
 }
 
-/// A lent code and the work parts of a call on it. The parts stand by the width of their entries,
-/// each kind in the order of the call.
-pub struct OnCode<'a> {
-    pub n: usize,
-    pub m: usize,
-    pub edges: usize,
-    pub rank: usize,
-    pub wide: [&'a [u16]; 7],
-    pub narrow: [&'a [u8]; 2],
-    pub h: &'a mut [u8],
-    pub pivots: &'a mut [u16],
-}
-
-/// Makes a call on a lent code, with its own arguments.
-macro_rules! call_on_code {
-    ($on:expr, $name:ident($($own:expr),*)) => {{
-        let on: OnCode = $on;
-        let [var, row, start, col, order, parity, info] = on.wide;
-        let [coef, a] = on.narrow;
-        unsafe {
-            $name(
-                on.n,
-                on.m,
-                on.edges,
-                on.rank,
-                var.as_ptr(),
-                var.len(),
-                coef.as_ptr(),
-                coef.len(),
-                row.as_ptr(),
-                row.len(),
-                start.as_ptr(),
-                start.len(),
-                col.as_ptr(),
-                col.len(),
-                order.as_ptr(),
-                order.len(),
-                parity.as_ptr(),
-                parity.len(),
-                info.as_ptr(),
-                info.len(),
-                a.as_ptr(),
-                a.len(),
-                $($own,)*
-                on.h.as_mut_ptr(),
-                on.h.len(),
-                on.pivots.as_mut_ptr(),
-                on.pivots.len(),
-            )
-        }
-    }};
-}
-
-pub fn encode(on: OnCode, syms: &[u8], word: &mut [u8]) -> u8 {
-    call_on_code!(
-        on,
-        hazgunek_encode(syms.as_ptr(), syms.len(), word.as_mut_ptr(), word.len())
-    )
-}
-
-pub fn info_of(on: OnCode, word: &[u8], count: &mut usize, syms: &mut [u8]) -> u8 {
-    call_on_code!(
-        on,
-        hazgunek_info_of(
-            word.as_ptr(),
-            word.len(),
-            count,
-            syms.as_mut_ptr(),
-            syms.len()
-        )
-    )
-}
-
-pub fn checks_ok(on: OnCode, word: &[u8], ok: &mut u8) -> u8 {
-    call_on_code!(on, hazgunek_checks_ok(word.as_ptr(), word.len(), ok))
-}
-
-pub fn degree(on: OnCode, v: usize, degree: &mut usize) -> u8 {
-    call_on_code!(on, hazgunek_degree(v, degree))
-}
-
-pub fn k(on: OnCode, k: &mut usize) -> u8 {
-    call_on_code!(on, hazgunek_k(k))
-}
-
-pub fn n(on: OnCode, symbols: &mut usize) -> u8 {
-    call_on_code!(on, hazgunek_n(symbols))
-}
-
-pub fn info_positions(on: OnCode, count: &mut usize, positions: &mut [u16]) -> u8 {
-    call_on_code!(
-        on,
-        hazgunek_info_positions(count, positions.as_mut_ptr(), positions.len())
-    )
-}
-
-pub fn peel_picks(on: OnCode, prefer: &[i64], count: &mut usize, picks: &mut [u16]) -> u8 {
-    call_on_code!(
-        on,
-        hazgunek_peel_picks(
-            prefer.as_ptr(),
-            prefer.len(),
-            count,
-            picks.as_mut_ptr(),
-            picks.len()
-        )
-    )
-}
-
-/// A lent code of which a call writes over all but the graph, and the call's work parts. The parts
-/// stand by the width of their entries, each kind in the order of the call.
+/// A lent code of which a call writes over all but the graph, and the call's work parts. Of the graph
+/// and of what goes by the column order the parts with wide entries stand in the order of the call.
 pub struct OverCode<'a> {
     pub n: usize,
     pub m: usize,
@@ -338,39 +203,145 @@ pub struct OverCode<'a> {
     pub pivots: &'a mut [u16],
 }
 
-pub fn with_peeled_info(over: OverCode, prefer: &[i64]) -> u8 {
-    let [var, row, start, col] = over.graph;
-    let [order, parity, info] = over.encoder;
-    unsafe {
-        hazgunek_with_peeled_info(
-            over.n,
-            over.m,
-            over.edges,
-            over.rank,
-            var.as_ptr(),
-            var.len(),
-            over.coef.as_ptr(),
-            over.coef.len(),
-            row.as_ptr(),
-            row.len(),
-            start.as_ptr(),
-            start.len(),
-            col.as_ptr(),
-            col.len(),
-            order.as_mut_ptr(),
-            order.len(),
-            parity.as_mut_ptr(),
-            parity.len(),
-            info.as_mut_ptr(),
-            info.len(),
-            over.a.as_mut_ptr(),
-            over.a.len(),
+/// The same of a code that a call only reads.
+pub struct OnCode<'a> {
+    n: usize,
+    m: usize,
+    edges: usize,
+    rank: usize,
+    graph: [&'a [u16]; 4],
+    coef: &'a [u8],
+    encoder: [&'a [u16]; 3],
+    a: &'a [u8],
+    h: &'a mut [u8],
+    pivots: &'a mut [u16],
+}
+
+impl<'a> OverCode<'a> {
+    pub fn read_only(self) -> OnCode<'a> {
+        OnCode {
+            n: self.n,
+            m: self.m,
+            edges: self.edges,
+            rank: *self.rank,
+            graph: self.graph,
+            coef: self.coef,
+            encoder: self.encoder.map(|part| &*part),
+            a: self.a,
+            h: self.h,
+            pivots: self.pivots,
+        }
+    }
+}
+
+/// Makes a call on a lent code, with its own arguments; `$pointer` gives the pointers to the parts
+/// that go by the column order.
+macro_rules! call_on_code {
+    ($on:ident, $pointer:ident, $name:ident($($own:expr),*)) => {{
+        let [var, row, start, col] = $on.graph;
+        let [order, parity, info] = $on.encoder;
+        unsafe {
+            $name(
+                $on.n,
+                $on.m,
+                $on.edges,
+                $on.rank,
+                var.as_ptr(),
+                var.len(),
+                $on.coef.as_ptr(),
+                $on.coef.len(),
+                row.as_ptr(),
+                row.len(),
+                start.as_ptr(),
+                start.len(),
+                col.as_ptr(),
+                col.len(),
+                order.$pointer(),
+                order.len(),
+                parity.$pointer(),
+                parity.len(),
+                info.$pointer(),
+                info.len(),
+                $on.a.$pointer(),
+                $on.a.len(),
+                $($own,)*
+                $on.h.as_mut_ptr(),
+                $on.h.len(),
+                $on.pivots.as_mut_ptr(),
+                $on.pivots.len(),
+            )
+        }
+    }};
+}
+
+pub fn encode(on: OnCode, syms: &[u8], word: &mut [u8]) -> u8 {
+    call_on_code!(
+        on,
+        as_ptr,
+        hazgunek_encode(syms.as_ptr(), syms.len(), word.as_mut_ptr(), word.len())
+    )
+}
+
+pub fn info_of(on: OnCode, word: &[u8], count: &mut usize, syms: &mut [u8]) -> u8 {
+    call_on_code!(
+        on,
+        as_ptr,
+        hazgunek_info_of(
+            word.as_ptr(),
+            word.len(),
+            count,
+            syms.as_mut_ptr(),
+            syms.len()
+        )
+    )
+}
+
+pub fn checks_ok(on: OnCode, word: &[u8], ok: &mut u8) -> u8 {
+    call_on_code!(
+        on,
+        as_ptr,
+        hazgunek_checks_ok(word.as_ptr(), word.len(), ok)
+    )
+}
+
+pub fn degree(on: OnCode, v: usize, degree: &mut usize) -> u8 {
+    call_on_code!(on, as_ptr, hazgunek_degree(v, degree))
+}
+
+pub fn k(on: OnCode, k: &mut usize) -> u8 {
+    call_on_code!(on, as_ptr, hazgunek_k(k))
+}
+
+pub fn n(on: OnCode, symbols: &mut usize) -> u8 {
+    call_on_code!(on, as_ptr, hazgunek_n(symbols))
+}
+
+pub fn info_positions(on: OnCode, count: &mut usize, positions: &mut [u16]) -> u8 {
+    call_on_code!(
+        on,
+        as_ptr,
+        hazgunek_info_positions(count, positions.as_mut_ptr(), positions.len())
+    )
+}
+
+pub fn peel_picks(on: OnCode, prefer: &[i64], count: &mut usize, picks: &mut [u16]) -> u8 {
+    call_on_code!(
+        on,
+        as_ptr,
+        hazgunek_peel_picks(
             prefer.as_ptr(),
             prefer.len(),
-            over.h.as_mut_ptr(),
-            over.h.len(),
-            over.pivots.as_mut_ptr(),
-            over.pivots.len(),
+            count,
+            picks.as_mut_ptr(),
+            picks.len()
         )
-    }
+    )
+}
+
+pub fn with_peeled_info(over: OverCode, prefer: &[i64]) -> u8 {
+    call_on_code!(
+        over,
+        as_mut_ptr,
+        hazgunek_with_peeled_info(prefer.as_ptr(), prefer.len())
+    )
 }

@@ -1,7 +1,7 @@
 //! The parts that a call on a lent code is lent, each guarded, and what must stand in them after
 //! it.
 
-use crate::abi::{self, OnCode, OverCode};
+use crate::abi::{self, OverCode};
 use crate::code::{
     A, COEF, COL, Code, INFO, NAMES, ORDER, PARITY, RANK, ROW, START, VAR, narrowed,
 };
@@ -38,23 +38,8 @@ impl LentCode {
         }
     }
 
-    /// To a call that reads the code.
-    fn lend(&mut self) -> OnCode<'_> {
-        let [n, m, edges] = self.sizes;
-        OnCode {
-            n,
-            m,
-            edges,
-            rank: *self.rank.lend_one(),
-            wide: self.wide.each_mut().map(|part| &*part.lend()),
-            narrow: self.narrow.each_mut().map(|part| &*part.lend()),
-            h: self.h.lend(),
-            pivots: self.pivots.lend(),
-        }
-    }
-
-    /// To a call that writes over the code.
-    fn lend_over(&mut self) -> OverCode<'_> {
+    /// To a call that writes over the code, or only reads it.
+    fn lend(&mut self) -> OverCode<'_> {
         let [n, m, edges] = self.sizes;
         let [var, row, start, col, order, parity, info] = self.wide.each_mut().map(Guarded::lend);
         let [coef, a] = self.narrow.each_mut().map(Guarded::lend);
@@ -139,9 +124,9 @@ impl LentOwn {
     pub fn call(&mut self, call: &Call, code: &mut LentCode) -> u8 {
         let (given, prefer) = (self.given.lend(), self.prefer.lend());
         if let Call::WithPeeledInfo { .. } = call {
-            return abi::with_peeled_info(code.lend_over(), prefer);
+            return abi::with_peeled_info(code.lend(), prefer);
         }
-        let (on, found) = (code.lend(), self.found.lend_one());
+        let (on, found) = (code.lend().read_only(), self.found.lend_one());
         let (symbols, positions) = (self.symbols.lend(), self.positions.lend());
         match *call {
             Call::Encode { .. } => abi::encode(on, given, symbols),

@@ -22,6 +22,7 @@ use Rattle.elimination.specs.Matrix.{Matrix, entryTurn, entry, matrixOf}
 use Rattle.elimination.specs.Held.{edgesIn, held}
 use Rattle.elimination.specs.Standing.{Holds}
 use Rattle.elimination.proofs.Columns.{holds-ext}
+use Rattle.elimination.proofs.Held.{held-check}
 
 -- ---- the edges of a check
 
@@ -90,8 +91,8 @@ module _ (var coef : List ℕ) (from : ℕ) where
 
 module _ (m n : ℕ) (var coef row : List ℕ) where
   matrix-row : (i j : ℕ) → i < m → matrixOf (held n m var coef row) i j ≡ foldl (entryTurn j) 0 (edgesIn var coef (nth row i) (nth row (i + 1)))
-  unfolding matrixOf held entry
-  matrix-row i j h = ap (foldl (entryTurn j) 0) (values-at (λ c. edgesIn var coef (nth row c) (nth row (c + 1))) m i [] h)
+  unfolding matrixOf entry
+  matrix-row i j h = ap (foldl (entryTurn j) 0) (held-check n m var coef row i h)
 
   -- the first i rows are there, the others are 0
   abbrev pub upTo : ℕ → Matrix

@@ -1,7 +1,6 @@
--- The edges' coefficients and variables inside their bounds, of any graph and of one that stands in parts; the check matrix then has field elements. And how many
--- checks a graph has that stands in parts.
+-- The edges' coefficients and variables inside their bounds, of any graph and of one that stands in parts; the check matrix then has field elements.
 -- Assumes nothing.
-use mathlib.Core.Path.{_≡_, ap}
+use mathlib.Core.Path.{ap}
 use mathlib.Core.Logic.{⊎-elim}
 use mathlib.Core.List.{List, [], _∷_, foldl}
 use Prim.Native.Nat.{ℕ, suc, _+_, _-_, _<_, _≤_}
@@ -18,7 +17,8 @@ use Rattle.lists.proofs.Values.{values-at, values-length}
 use Rattle.field.proofs.Sum.{xor32}
 use Rattle.elimination.specs.Graph.{Edge, Graph, checkCount, check}
 use Rattle.elimination.specs.Matrix.{entryTurn, entry, matrixOf}
-use Rattle.elimination.specs.Held.{edgesIn, held}
+use Rattle.elimination.specs.Held.{held}
+use Rattle.elimination.proofs.Held.{held-checks, held-check}
 
 -- each coefficient is below 32
 abbrev pub Small : Graph → Type 0
@@ -47,24 +47,16 @@ matrix-lt g w i j =
     (λ h. rw (List·getD-eq-default (g .checks) [] h) (lit< tt))
     (less-or-not i (checkCount g))
 
-pub held-checks : (n m : ℕ) (var coef row : List ℕ) → checkCount (held n m var coef row) ≡ m
-unfolding held
-held-checks n m var coef row = values-length (λ c. edgesIn var coef (nth row c) (nth row (c + 1))) m
-
 module _ (var coef row : List ℕ) where
   abbrev edge : ℕ → ℕ → Edge
   edge c j = (nth var (nth row c + j), nth coef (nth row c + j))
 
-  abbrev es : ℕ → List Edge
-  es c = edgesIn var coef (nth row c) (nth row (c + 1))
-
   -- what holds of each edge in the parts holds of each edge of the graph that they hold
   held-each : (P : Edge → Type 0) (n m : ℕ) → ((c : ℕ) → c < m → nth row c ≤ nth row (c + 1)) → ((e : ℕ) → e < nth row m → P (nth var e, nth coef e))
       → (c t : ℕ) → c < checkCount (held n m var coef row) → t < length (check (held n m var coef row) c) → P (getD (check (held n m var coef row) c) t (0, 0))
-  unfolding held
   held-each P n m up w c t h l =
-      let b : c < m = omega (arith, values-length es m) in
-      let e = values-at es m c [] b in
+      let b : c < m = omega (arith, h, held-checks n m var coef row) in
+      let e = held-check n m var coef row c b in
       let k : t < nth row (c + 1) - nth row c = omega (arith, ap length e, values-length (edge c) (nth row (c + 1) - nth row c), l) in
       let top = rises m (nth row) up (c + 1) m (omega arith) (le-refl m) in
       rw (e, values-at (edge c) (nth row (c + 1) - nth row c) t (0, 0) k) (w (nth row c + t) (omega arith))

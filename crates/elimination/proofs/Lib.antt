@@ -4,6 +4,7 @@ pub mod Eliminated
 pub mod Infos
 pub mod Alike
 pub mod Columns
+pub mod Held
 pub mod Clearing
 pub mod ColumnTurn
 pub mod Checks

@@ -25,7 +25,8 @@ use Rattle.elimination.specs.Elimination.{State, eliminated, reduced, in
 use Rattle.elimination.specs.Held.{held}
 use Rattle.elimination.specs.Standing.{Stands}
 use Rattle.elimination.proofs.Eliminated.{Eliminated, eliminated-is}
-use Rattle.elimination.proofs.Entries.{Small, matrix-lt, held-checks, held-small}
+use Rattle.elimination.proofs.Entries.{Small, matrix-lt, held-small}
+use Rattle.elimination.proofs.Held.{held-checks}
 use Rattle.elimination.proofs.Infos.{info-inside}
 use Rattle.elimination.proofs.Alike.{eliminated-order}
 

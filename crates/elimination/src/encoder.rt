@@ -1,14 +1,11 @@
 // The encoder of a code: its check matrix, eliminated, gives the parity positions, the information positions and the table of factors.
 ghost use mathlib.Core.Path.{_≡_};
-ghost use mathlib.Core.Bool.{not};
 ghost use mathlib.Core.List.{foldl};
 ghost use Prim.Native.Nat.{ℕ, _+_, _*_, _<_, _≤_};
 ghost use lib.ListN.{length};
-ghost use Rattle.lists.specs.Among.{among};
 ghost use Rattle.lists.specs.Chain.{chain};
 ghost use Rattle.lists.specs.Changed.{changed};
 ghost use Rattle.lists.specs.Entry.{nth};
-ghost use Rattle.lists.specs.Keep.{keepBelow};
 ghost use Rattle.lists.specs.Laid.{laid, laidFrom};
 ghost use Rattle.lists.specs.Values.{values};
 ghost use Rattle.elimination.specs.Matrix.{Matrix, entryTurn, matrixOf};
@@ -17,6 +14,7 @@ ghost use Rattle.elimination.specs.Held.{edgesIn, held};
 ghost use Rattle.elimination.specs.Encodable.{Graphed, Encodable};
 ghost use Rattle.elimination.specs.Standing.{Holds};
 use crate::elimination::eliminate;
+use crate::positions::others;
 use calls::clear::clear_u8;
 
 // Adds the edges from one place to another to row i.
@@ -43,35 +41,6 @@ pub fn matrix(m: usize, var: &[u16], coef: &[u8], row: &[u16], h: &mut [u8])
         let to = row[i + 1] as usize;
         add_check(h, i, var, coef, from, to);
     }
-}
-
-// Whether j is one of the first r positions listed.
-pub fn is_among(listed: &[u16], r: usize, j: usize) -> bool
-    requires { ⌜ r ≤ length (now listed) ⌝ }
-    ensures { λ b. ⌜ b ≡ among r (nth (now (listed .entry))) j ⌝ }
-{
-    for i in 0..r {
-        if listed[i] as usize == j {
-            return true;
-        }
-    }
-    false
-}
-
-// The positions below n that are not among the first r listed, to the front of `out`. Answers how many they are.
-pub fn others(n: usize, r: usize, listed: &[u16], out: &mut [u16]) -> usize
-    requires { ⌜ (n ≤ 256) × (length (now out) ≡ 256) × (r ≤ length (now listed)) ⌝ }
-    ensures { λ k. ⌜ k ≡ length (keepBelow (λ j. not (among r (nth (now (listed .entry))) j)) n) ⌝ }
-    ensures { λ _. ⌜ now (out .exit) ≡ laid (keepBelow (λ j. not (among r (nth (now (listed .entry))) j)) n) (now (out .entry)) ⌝ }
-{
-    let mut k = 0;
-    for j in 0..n {
-        if !is_among(listed, r, j) {
-            out[k] = j as u16;
-            k += 1;
-        }
-    }
-    k
 }
 
 // Row i of the table: the matrix's entries at the k information positions, from place `at` on.

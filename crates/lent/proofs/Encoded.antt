@@ -30,6 +30,7 @@ use Rattle.elimination.specs.Standing.{Stands}
 use Rattle.lent.specs.Misencoded.{graphIn, reducedIn, misencoded}
 use Rattle.lent.specs.Sound.{Fits, Formed, Encoded}
 use Rattle.elimination.proofs.Eliminated.{Eliminated}
+use Rattle.elimination.proofs.Entries.{Small, Inside, held-small, held-inside}
 use Rattle.elimination.proofs.Infos.{infos-count}
 use Rattle.elimination.proofs.Reduced.{held-eliminated, infos-same, info-below, table-same}
 
@@ -39,6 +40,12 @@ module _ (c : Code) (p : Parts) where
   module _ (f : Formed c p) where
     edge : (e : ℕ) → e < nth (p .row) (c .m) → e < c .edges
     edge e h = omega (arith, f .rows .last)
+
+    pub formed-small : Small (graphIn c p)
+    formed-small = held-small (p .var) (p .coef) (p .row) (c .n) (c .m) (f .rows .rise) (λ e h. f .coefs e (edge e h) .1)
+
+    pub formed-inside : Inside (graphIn c p)
+    formed-inside = held-inside (p .var) (p .coef) (p .row) (c .n) (c .m) (f .rows .rise) (λ e h. f .vars e (edge e h))
 
     pub formed-eliminated : Eliminated (c .m) (c .n) (nth (p .order)) (matrixOf (graphIn c p)) (c .n) (reducedIn c p)
     formed-eliminated = held-eliminated (c .n) (c .m) (p .var) (p .coef) (p .row) (p .order) (f .rows .rise) (λ e h. f .coefs e (edge e h) .1) (f .order .inside)

@@ -2,7 +2,7 @@
 -- Assumes nothing.
 use Prim.Native.Nat.{ℕ, zero, suc, _+_, _-_, _<_, _≤_}
 use mathlib.Core.Path.{_≡_, sym, ap, ap₂, _∙_}
-use mathlib.Core.List.{List, [], map}
+use mathlib.Core.List.{List, map}
 use native.Mathlib.Nat.{le-refl}
 use native.Mathlib.Numerals.{add-one}
 use native.Mathlib.Omega.{arith}
@@ -10,18 +10,15 @@ use lib.ListN.{length}
 use Rattle.lists.specs.Entry.{nth}
 use Rattle.lists.specs.Chain.{chain, startOf}
 use Rattle.lists.specs.Values.{values}
-use Rattle.lists.proofs.Values.{values-length, values-at, map-values}
+use Rattle.lists.proofs.Values.{values-length}
 use Rattle.lists.proofs.Chain.{start-none, start-more, chain-ext, map-chain, chain-values}
 use Rattle.elimination.specs.Graph.{Edge, checkCount, check, edges}
-use Rattle.elimination.specs.Held.{edgesIn, held}
-use Rattle.elimination.proofs.Entries.{held-checks}
+use Rattle.elimination.specs.Held.{held}
+use Rattle.elimination.proofs.Held.{held-checks, held-symbols}
 use Rattle.graph.specs.Parts.{variables}
 use Rattle.lent.specs.Sound.{Starts}
 
 module _ (n m count : ℕ) (var coef row : List ℕ) (w : Starts m count (nth row)) where
-  abbrev part : ℕ → List Edge
-  part c = edgesIn var coef (nth row c) (nth row (c + 1))
-
   -- the variables of check c
   abbrev own : ℕ → List ℕ
   own c = values (nth row (c + 1) - nth row c) (λ j. nth var (nth row c + j))
@@ -44,13 +41,9 @@ module _ (n m count : ℕ) (var coef row : List ℕ) (w : Starts m count (nth ro
   checkAt = check (held n m var coef row)
 
   check-own : (c : ℕ) → c < m → map variable (checkAt c) ≡ values (length (own c)) (λ j. nth var (startOf own c + j))
-  unfolding held
   check-own c h =
-      let k = nth row (c + 1) - nth row c in
-      let l = values-length (λ j. nth var (nth row c + j)) k in
-      ap (map variable) (values-at part m c [] h)
-      ∙ map-values variable k (λ j. (nth var (nth row c + j), nth coef (nth row c + j)))
-      ∙ ap₂ (λ (k i : ℕ). values k (λ j. nth var (i + j))) (sym l) (sym (own-start c (omega arith)))
+      let l = values-length (λ j. nth var (nth row c + j)) (nth row (c + 1) - nth row c) in
+      held-symbols n m var coef row c h ∙ ap₂ (λ (k i : ℕ). values k (λ j. nth var (i + j))) (sym l) (sym (own-start c (omega arith)))
 
   pub held-variables : variables (held n m var coef row) ≡ values count (nth var)
   unfolding edges

@@ -2,7 +2,7 @@
 -- Assumes nothing.
 use Prim.Native.Nat.{ℕ, _+_, _-_, _<_}
 use mathlib.Core.Path.{_≡_, ap, sym, subst, _∙_}
-use mathlib.Core.List.{List, []}
+use mathlib.Core.List.{List}
 use native.Mathlib.Omega.{arith}
 use lib.ListN.{length, getD, List·getD-map}
 use Rattle.lists.specs.Entry.{nth}
@@ -11,11 +11,11 @@ use Rattle.lists.proofs.Chain.{chain-each}
 use Rattle.lists.proofs.Values.{values-length, values-at}
 use Rattle.graph.specs.declared.Code.{Code}
 use Rattle.elimination.specs.Graph.{Edge, Graph, checkCount, check, edges}
-use Rattle.elimination.specs.Held.{edgesIn, held}
+use Rattle.elimination.specs.Held.{held}
 use Rattle.lent.specs.Misencoded.{graphIn}
 use Rattle.graph.specs.Parts.{Parts, variables}
 use Rattle.lent.specs.Sound.{Sound}
-use Rattle.elimination.proofs.Entries.{held-checks}
+use Rattle.elimination.proofs.Held.{held-checks, held-check}
 use Rattle.lent.proofs.Formed.{starts-end}
 use Rattle.lent.proofs.HeldVariables.{held-variables}
 use Rattle.graph.proofs.Proper.{Proper, vars-long}
@@ -38,11 +38,10 @@ module _ (c : Code) (p : Parts) (w : Sound c p) where
   place i t = nth (p .row) i + t
 
   edge-held : (i t : ℕ) → i < checkCount g → t < length (check g i) → (place i t < nth (p .row) (i + 1)) × (getD (check g i) t (0, 0) ≡ (nth (p .var) (place i t), nth (p .coef) (place i t)))
-  unfolding held
   edge-held i t h l =
       let k = nth (p .row) (i + 1) - nth (p .row) i in
       let f : ℕ → Edge = λ j. (nth (p .var) (place i j), nth (p .coef) (place i j)) in
-      let e = values-at (λ i. edgesIn (p .var) (p .coef) (nth (p .row) i) (nth (p .row) (i + 1))) (c .m) i [] (omega (arith, checks)) in
+      let e = held-check (c .n) (c .m) (p .var) (p .coef) (p .row) i (omega (arith, checks)) in
       let b : t < k = omega (arith, ap length e, values-length f k, l) in
       (omega (arith, b), ap (λ (es : List Edge). getD es t (0, 0)) e ∙ values-at f k t (0, 0) b)
 

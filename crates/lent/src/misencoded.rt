@@ -15,8 +15,8 @@ ghost use Rattle.graph.specs.Parts.{lent};
 ghost use Rattle.lent.specs.Misencoded.{misencoded};
 ghost use Rattle.lent.specs.Sound.{Fits, Formed};
 use elimination::elimination::eliminate;
-use elimination::encoder::is_among;
 use elimination::encoder::matrix;
+use elimination::positions::is_among;
 use graph::Code;
 
 // Whether the first r entries differ.

@@ -28,7 +28,7 @@ use Rattle.lists.proofs.Total.{total-ext}
 use Rattle.lists.proofs.Values.{values-length}
 use Rattle.elimination.specs.Graph.{Graph, checkCount}
 use Rattle.elimination.specs.Held.{held}
-use Rattle.elimination.proofs.Entries.{held-checks}
+use Rattle.elimination.proofs.Held.{held-checks}
 use Rattle.peeling.specs.Best.{best}
 use Rattle.peeling.specs.Peelable.{symbolsIn}
 use Rattle.peeling.specs.Peeling.{Known, symbolsOf, unknowns, oneUnknown, following, freed, pickOf}

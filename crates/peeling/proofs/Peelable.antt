@@ -1,9 +1,9 @@
--- A lent code that the refusals leave may be peeled: a variable's list has as many edges in a check as the variable stands there; and its symbols are below n.
+-- A lent code that the refusals leave may be peeled: a variable's list has as many edges in a check as the variable stands there.
 -- Assumes nothing.
 use Prim.Native.Nat.{ℕ, _+_, _-_, _<_, _≤_}
 use mathlib.Core.Path.{_≡_, ap, ap₂, sym, subst, _∙_}
 use mathlib.Core.Bool.{Bool, false, _&&_, and-true, and-false}
-use mathlib.Core.List.{List, [], map}
+use mathlib.Core.List.{List}
 use native.Mathlib.Nat.{le-refl}
 use native.Mathlib.Omega.{arith}
 use borrow.Author.Tests.{lt-ltb, le-ltb, le-leb, lt-leb}
@@ -17,15 +17,14 @@ use Rattle.lists.proofs.Keep.{keep-keepBelow}
 use Rattle.lists.proofs.Rising.{rises}
 use Rattle.lists.proofs.Tally.{tally-values, tally-window}
 use Rattle.lists.proofs.Times.{times-has, times-once, times-kept, times-values}
-use Rattle.lists.proofs.Values.{values-length, values-at, map-values}
+use Rattle.lists.proofs.Values.{values-length, values-at}
 use Rattle.graph.specs.declared.Code.{Code}
-use Rattle.elimination.specs.Graph.{Edge, checkCount}
-use Rattle.elimination.specs.Held.{edgesIn, held}
-use Rattle.lent.specs.Misencoded.{graphIn}
+use Rattle.elimination.specs.Held.{held}
 use Rattle.graph.specs.Parts.{Parts, places}
 use Rattle.lent.specs.Sound.{Sound}
-use Rattle.elimination.proofs.Entries.{held-checks}
+use Rattle.elimination.proofs.Held.{held-symbols}
 use Rattle.lent.proofs.Formed.{starts-end, lists-hold}
+use Rattle.lent.proofs.Sound.{sound-encodable}
 use Rattle.peeling.specs.Peelable.{symbolsIn, edgesOn, Checked, Peelable}
 use Rattle.peeling.specs.Peeling.{symbolsOf}
 
@@ -35,42 +34,23 @@ check-end {m = m} {row = row} w c h = (w .rise c h, rises m (nth row) (w .rise) 
 
 -- the symbols of a check that stands in parts
 pub symbols-held : (n m : ℕ) (var coef row : List ℕ) (c : ℕ) → c < m → symbolsOf (held n m var coef row) c ≡ symbolsIn var (nth row c) (nth row (c + 1))
-unfolding symbolsOf held
-symbols-held n m var coef row c h =
-    ap (λ (es : List Edge). map (λ (e : Edge). e .0) es) (values-at (λ c. edgesIn var coef (nth row c) (nth row (c + 1))) m c [] h)
-    ∙ map-values (λ (e : Edge). e .0) (nth row (c + 1) - nth row c) (λ j. (nth var (nth row c + j), nth coef (nth row c + j)))
-
--- are below n
-pub symbols-below : {n m : ℕ} {var row : List ℕ} (coef : List ℕ) → Checked n m var row → (c t : ℕ) → c < checkCount (held n m var coef row) → t < length (symbolsOf (held n m var coef row) c)
-    → nth (symbolsOf (held n m var coef row) c) t < held n m var coef row .n
-unfolding held
-symbols-below {n} {m} {var} {row} coef w c t h l =
-    let i : c < m = omega (arith, h, held-checks n m var coef row) in
-    let f : ℕ → ℕ = λ j. nth var (nth row c + j) in
-    let q = symbols-held n m var coef row c i in
-    let k : t < nth row (c + 1) - nth row c = omega (arith, l, ap length q, values-length f (nth row (c + 1) - nth row c)) in
-    subst (λ (x : ℕ). x < n) (sym (ap (λ (x : List ℕ). nth x t) q ∙ values-at f (nth row (c + 1) - nth row c) t 0 k))
-    (w .vars (nth row c + t) (omega (arith, k, check-end w c i .1)))
+unfolding symbolsOf
+symbols-held = held-symbols
 
 module _ (c : Code) (p : Parts) (w : Sound c p) where
-  -- the row starts end where the edges do
-  edge : (e : ℕ) → e < nth (p .row) (c .m) → e < c .edges
-  edge e h = omega (arith, w .formed .rows .last)
-
   checked : Checked (c .n) (c .m) (p .var) (p .row)
-  checked = record {
-    n-small = w .fits .n-small;
-    m-small = w .fits .m-small;
-    var-long = w .fits .parts .var;
-    row-long = w .fits .parts .row;
-    first = w .formed .rows .first;
-    rise = w .formed .rows .rise;
-    end = omega (arith, w .formed .rows .last, w .formed .few);
-    vars = λ e h. w .formed .vars e (edge e h);
-  }
-
-  pub symbols-inside : (i t : ℕ) → i < checkCount (graphIn c p) → t < length (symbolsOf (graphIn c p) i) → nth (symbolsOf (graphIn c p) i) t < graphIn c p .n
-  symbols-inside = symbols-below (p .coef) checked
+  checked =
+      let e = sound-encodable c p w in
+      record {
+        n-small = e .n-small;
+        m-small = e .graph .m-small;
+        var-long = e .graph .var-long;
+        row-long = e .graph .row-long;
+        first = w .formed .rows .first;
+        rise = e .graph .rise;
+        end = e .graph .end;
+        vars = e .vars;
+      }
 
   -- ---- variable v's edges in check i
 

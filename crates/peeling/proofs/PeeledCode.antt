@@ -26,6 +26,7 @@ use Rattle.graph.specs.Sizes.{tooLarge, codeLengths}
 use Rattle.lent.specs.Sound.{Fits, Formed, Encoded, Sound}
 use Rattle.graph.proofs.Proper.{Proper, order-padded, order-each, infos-long, table-long, parity-padded, info-padded, table-padded}
 use Rattle.elimination.proofs.Reduced.{reduced-order}
+use Rattle.lent.proofs.Encoded.{formed-inside}
 use Rattle.lent.proofs.Sound.{sound}
 use Rattle.lent.proofs.SoundPasses.{sound-passes}
 use Rattle.words.specs.Encoding.{encoding, infoSymbols}
@@ -33,7 +34,6 @@ use Rattle.words.specs.Word.{Symbols}
 use Rattle.words.proofs.Theorem.{same-words}
 use Rattle.peeling.specs.Peeling.{picksOf}
 use Rattle.peeling.specs.WithPeeledInfo.{orderOf, codeIn, partsIn}
-use Rattle.peeling.proofs.Peelable.{symbols-inside}
 use Rattle.peeling.proofs.PeeledOrder.{order-length, order-once}
 use Rattle.lent.proofs.SoundProper.{sound-proper}
 use Rattle.peeling.proofs.Turns.{picks-inside, picks-distinct}
@@ -142,15 +142,15 @@ module _ (c : Code) (p : Parts) (r : NotRefused c p) (order : List ℕ) (long : 
 module _ (last : Bool) (c : Code) (p : Parts) (prefer : List ℤ) (w : Sound c p) where
   below : (t : ℕ) → t < length (picksOf last (graphIn c p) prefer) → nth (picksOf last (graphIn c p) prefer) t < c .n
   unfolding held
-  below = picks-inside last (graphIn c p) prefer (symbols-inside c p w)
+  below = picks-inside last (graphIn c p) prefer (formed-inside c p (w .formed))
 
   pub peeled-long : length (orderOf last c p prefer) ≡ c .n
   unfolding orderOf
-  peeled-long = order-length (c .n) (picksOf last (graphIn c p) prefer) below (picks-distinct last (graphIn c p) prefer (symbols-inside c p w))
+  peeled-long = order-length (c .n) (picksOf last (graphIn c p) prefer) below (picks-distinct last (graphIn c p) prefer (formed-inside c p (w .formed)))
 
   pub peeled-once : EachOnce (c .n) (nth (orderOf last c p prefer))
   unfolding orderOf
-  peeled-once = order-once (c .n) (picksOf last (graphIn c p) prefer) below (picks-distinct last (graphIn c p) prefer (symbols-inside c p w))
+  peeled-once = order-once (c .n) (picksOf last (graphIn c p) prefer) below (picks-distinct last (graphIn c p) prefer (formed-inside c p (w .formed)))
 
 module _ (last : Bool) (c : Code) (p : Parts) (prefer : List ℤ) (r : NotRefused c p) where
   pub peeled-not-refused : NotRefused (codeIn c p (orderOf last c p prefer)) (partsIn c p (orderOf last c p prefer))

@@ -29,16 +29,16 @@ use Rattle.lists.proofs.Laid.{laid-start, laid-on, laid-at}
 use Rattle.lists.proofs.Values.{values-length, values-at}
 use Rattle.elimination.specs.Graph.{Graph, checkCount}
 use Rattle.elimination.specs.Held.{held}
-use Rattle.elimination.proofs.Entries.{held-checks}
+use Rattle.elimination.proofs.Entries.{Inside, held-inside}
+use Rattle.elimination.proofs.Held.{held-checks}
 use Rattle.peeling.specs.Best.{Key, best}
 use Rattle.peeling.specs.Peelable.{symbolsIn, edgesOn, Peelable}
-use Rattle.peeling.specs.Peeling.{Known, Peeled, symbolsOf, unknowns, oneUnknown, following, pickOf, followed, picked, peelTurn, peeled, picksOf}
+use Rattle.peeling.specs.Peeling.{Known, Peeled, unknowns, oneUnknown, following, pickOf, followed, picked, peelTurn, peeled, picksOf}
 use Rattle.peeling.specs.PeeledOrder.{peeledOrder}
 use Rattle.peeling.proofs.Counts.{count-start, count-less, count-room, count-one, count-pick, held-following}
 use Rattle.peeling.proofs.PeeledOrder.{order-length}
 use Rattle.peeling.proofs.Turns.{following-new, unknown-left, picks-few, picks-distinct, picks-inside}
 use Rattle.peeling.proofs.BestSymbol.{best-new}
-use Rattle.peeling.proofs.Peelable.{symbols-below}
 
 -- what the marks say
 abbrev pub marked : List Bool → Known
@@ -102,8 +102,8 @@ module _ (last : Bool) (n m : ℕ) (var coef row : List ℕ) (prefer : List ℤ)
   more t = iter-more t (λ _ s. peelTurn last g prefer s) (state (λ _. false) [])
 
   module _ (start col : List ℕ) (w : Peelable n m var row start col) where
-    inside : (c t : ℕ) → c < checkCount g → t < length (symbolsOf g c) → nth (symbolsOf g c) t < g .n
-    inside = symbols-below coef (w .checks)
+    inside : Inside g
+    inside = held-inside var coef row n m (w .checks .rise) (w .checks .vars)
 
     -- what the picks and the order they give have room in
     pub picks-room : length (picksOf last g prefer) ≤ n

@@ -17,13 +17,13 @@ use Rattle.graph.specs.declared.Code.{Code}
 use Rattle.graph.specs.Parts.{Parts}
 use Rattle.lent.specs.LentCode.{NotRefused}
 use Rattle.lent.specs.Misencoded.{graphIn}
+use Rattle.lent.proofs.Encoded.{formed-inside}
 use Rattle.lent.proofs.Sound.{sound}
 use Rattle.words.specs.Encoding.{encoding, infoSymbols}
 use Rattle.words.specs.Word.{Symbols}
 use Rattle.peeling.specs.Peeling.{Known, freed, pickOf, peeled, picksOf}
 use Rattle.peeling.specs.WithPeeledInfo.{orderOf, codeIn, partsIn}
 use Rattle.peeling.proofs.BestSymbol.{NotBetter, best-most}
-use Rattle.peeling.proofs.Peelable.{symbols-inside}
 use Rattle.peeling.proofs.PeeledCode.{peeled-once, peeled-not-refused, peeled-same-words}
 use Rattle.peeling.proofs.Turns.{all-known, picks-distinct, picks-inside}
 
@@ -63,7 +63,7 @@ module _ (last : Bool) (c : Code) (p : Parts) (prefer : List ℤ) where
   pub peeled-well : NotRefused c p → PeeledWell
   unfolding pickOf held codeIn partsIn
   peeled-well r =
-      let inside = symbols-inside c p (sound c p r) in
+      let inside = formed-inside c p (sound c p r .formed) in
       record {
         positions = picks-inside last g prefer inside;
         distinct = times-distinct picks (picks-distinct last g prefer inside);

@@ -9,7 +9,7 @@ use native.Mathlib.Omega.{arith}
 use borrow.Author.Tests.{eqb-true, not-true}
 use lib.Dec.{eqb}
 use lib.IntN.{ℤ, pos}
-use lib.ListN.{length, getD, length-append}
+use lib.ListN.{length, getD, length-append, length-map, List·getD-map}
 use Rattle.lists.specs.Changed.{changed}
 use Rattle.lists.specs.Entry.{nth}
 use Rattle.lists.specs.Iter.{iter}
@@ -22,12 +22,18 @@ use Rattle.lists.proofs.Keep.{keep-passes}
 use Rattle.lists.proofs.Lowest.{lowest-is}
 use Rattle.lists.proofs.Tally.{one-more, tally-none, tally-left, tally-full}
 use Rattle.lists.proofs.Times.{times-none, times-append, times-same, times-other, times-at}
-use Rattle.elimination.specs.Graph.{Graph, checkCount}
+use Rattle.elimination.specs.Graph.{Edge, Graph, checkCount, check}
+use Rattle.elimination.proofs.Entries.{Inside}
 use Rattle.peeling.specs.Peeling.{Known, symbolsOf, unknowns, oneUnknown, following, freed, pickOf, Peeled, followed, picked, peelTurn, peeled, picksOf}
 use Rattle.peeling.proofs.BestSymbol.{best-new}
 
-module _ (last : Bool) (g : Graph) (prefer : List ℤ) (inside : (c t : ℕ) → c < checkCount g → t < length (symbolsOf g c) → nth (symbolsOf g c) t < g .n) where
+module _ (last : Bool) (g : Graph) (prefer : List ℤ) (inside : Inside g) where
   -- ---- one turn
+
+  symbol-inside : (c t : ℕ) → c < checkCount g → t < length (symbolsOf g c) → nth (symbolsOf g c) t < g .n
+  unfolding symbolsOf
+  symbol-inside c t h l =
+      subst (λ (x : ℕ). x < g .n) (sym (List·getD-map (λ (e : Edge). e .0) (check g c) t (0, 0))) (inside c t h (omega (arith, l, length-map (check g c) (λ (e : Edge). e .0))))
 
   -- the unknown symbol of the check that has exactly one
   pub following-new : (known : Known) → oneUnknown g known < checkCount g → (following g known < g .n) × (known (following g known) ≡ false)
@@ -36,7 +42,7 @@ module _ (last : Bool) (g : Graph) (prefer : List ℤ) (inside : (c t : ℕ) →
       let c = oneUnknown g known in
       let one = eqb-true (length (unknowns g known c)) 1 (lowest-is (λ c. eqb (length (unknowns g known c)) 1) (checkCount g) 0 .found (omega arith)) in
       let r = keep-passes (λ v. not (known v)) (symbolsOf g c) 0 (omega (arith, one)) in
-      (subst (λ (x : ℕ). x < g .n) (r .1 .2) (inside c (r .1 .0) h (r .1 .1)), not-true (known (following g known)) (r .0))
+      (subst (λ (x : ℕ). x < g .n) (r .1 .2) (symbol-inside c (r .1 .0) h (r .1 .1)), not-true (known (following g known)) (r .0))
 
   pick-new : (known : Known) (u : ℕ) → u < g .n → known u ≡ false → (pickOf last g prefer known < g .n) × (known (pickOf last g prefer known) ≡ false)
   unfolding pickOf

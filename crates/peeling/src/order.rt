@@ -13,7 +13,7 @@ ghost use Rattle.peeling.specs.PeeledOrder.{peeledOrder};
 ghost use Rattle.peeling.specs.Peeling.{picksOf};
 use crate::peel::peel;
 use calls::clear::clear_u16;
-use elimination::encoder::others;
+use elimination::positions::others;
 
 // The first k picks in reverse, from place `at` on.
 fn append_reversed(k: usize, picks: &[u16], at: usize, order: &mut [u16])

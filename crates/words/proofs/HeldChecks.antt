@@ -9,11 +9,11 @@ use lib.Bits.{bitXor}
 use Rattle.lists.specs.AnyBelow.{anyBelow}
 use Rattle.lists.specs.Entry.{nth}
 use Rattle.lists.proofs.AnyBelow.{anyBelow-ext}
-use Rattle.lists.proofs.Values.{values-at, values-length}
 use Rattle.field.specs.Field.{product}
 use Rattle.elimination.specs.Graph.{Edge}
 use Rattle.elimination.specs.Held.{edgesIn, held}
 use Rattle.elimination.proofs.Checks.{edges-none, edges-more}
+use Rattle.elimination.proofs.Held.{held-checks, held-check}
 use Rattle.words.specs.Word.{sumTurn, checkSum, allSatisfied}
 
 module _ (var coef : List ℕ) (x : List ℕ) where
@@ -34,8 +34,8 @@ module _ (var coef : List ℕ) (x : List ℕ) where
   fails row c = not (eqb (checkSum (edgesIn var coef (nth row c) (nth row (c + 1))) x) 0)
 
   pub held-satisfied : (n m : ℕ) (row : List ℕ) → not (anyBelow m (fails row)) ≡ allSatisfied (held n m var coef row) x
-  unfolding allSatisfied held
+  unfolding allSatisfied
   held-satisfied n m row =
-      let es : ℕ → List Edge = λ c. edgesIn var coef (nth row c) (nth row (c + 1)) in
-      sym (ap (λ (k : ℕ). not (anyBelow k _)) (values-length es m))
-      ∙ ap not (anyBelow-ext _ _ _ (λ c h. ap (λ (l : List Edge). not (eqb (checkSum l x) 0)) (sym (values-at es m c [] (rw (values-length es m) at h)))))
+      let count = held-checks n m var coef row in
+      sym (ap (λ (k : ℕ). not (anyBelow k _)) count)
+      ∙ ap not (anyBelow-ext _ _ _ (λ c h. ap (λ (l : List Edge). not (eqb (checkSum l x) 0)) (sym (held-check n m var coef row c (rw count at h)))))

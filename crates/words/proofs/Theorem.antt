@@ -17,7 +17,8 @@ use Rattle.lent.specs.Misencoded.{graphIn}
 use Rattle.graph.specs.Parts.{Parts}
 use Rattle.lent.specs.Sound.{Sound}
 use Rattle.lent.proofs.Sound.{sound}
-use Rattle.elimination.proofs.Entries.{Small, Inside, held-small, held-inside}
+use Rattle.lent.proofs.Encoded.{formed-small, formed-inside}
+use Rattle.elimination.proofs.Entries.{Small, Inside}
 use Rattle.words.specs.Encoding.{informationOf, symbol, encoding, infoSymbols}
 use Rattle.words.specs.Linear.{sumOf, multipleOf}
 use Rattle.words.specs.Word.{Symbols, Word, allSatisfied}
@@ -52,10 +53,10 @@ module _ (c : Code) (p : Parts) where
 
 module _ {c : Code} {p : Parts} (w : Sound c p) where
   small : Small (graphIn c p)
-  small = held-small (p .var) (p .coef) (p .row) (c .n) (c .m) (w .formed .rows .rise) (λ e h. w .formed .coefs e (rw (w .formed .rows .last) at h) .1)
+  small = formed-small c p (w .formed)
 
   inside : Inside (graphIn c p)
-  inside = held-inside (p .var) (p .coef) (p .row) (c .n) (c .m) (w .formed .rows .rise) (λ e h. w .formed .vars e (rw (w .formed .rows .last) at h))
+  inside = formed-inside c p (w .formed)
 
   sound-words : Words c p
   unfolding held

@@ -1,4 +1,4 @@
--- `elimination::encoder::others` meets its contract. The invariant: the k positions below j that are not listed stand at the front of `out`.
+-- `elimination::positions::others` meets its contract. The invariant: the k positions below j that are not listed stand at the front of `out`.
 -- Assumes nothing.
 use mathlib.Core.Path.{_≡_, sym, ap, _∙_, subst, subst₂}
 use mathlib.Core.Logic.{⊎-elim}
@@ -13,8 +13,8 @@ use Rattle.lists.specs.Among.{among}
 use Rattle.lists.specs.Entry.{nth}
 use Rattle.lists.proofs.Kept.{Kept, kept-start, kept-pass, kept-fail}
 use Rattle.lists.proofs.Laid.{from-zero}
-use Rattle.elimination.proofs.encoder.others.Statement.{statement}
-use Rattle.elimination.proofs.encoder.others.Tie as tie
+use Rattle.elimination.proofs.positions.others.Statement.{statement}
+use Rattle.elimination.proofs.positions.others.Tie as tie
 
 -- a position that is not listed
 abbrev free : ℕ → List ℕ → ℕ → Bool

@@ -1,4 +1,4 @@
--- `elimination::encoder::is_among` meets its contract. The invariant: none of the first i positions is j.
+-- `elimination::positions::is_among` meets its contract. The invariant: none of the first i positions is j.
 -- Assumes nothing.
 use mathlib.Core.Path.{_≡_}
 use mathlib.Core.Bool.{false}
@@ -12,8 +12,8 @@ use Rattle.lists.specs.AnyBelow.{anyBelow}
 use Rattle.lists.specs.Among.{among}
 use Rattle.lists.specs.Entry.{nth}
 use Rattle.lists.proofs.AnyBelow.{anyBelow-start, anyBelow-on, anyBelow-hit, anyBelow-end}
-use Rattle.elimination.proofs.encoder.is_among.Statement.{statement}
-use Rattle.elimination.proofs.encoder.is_among.Tie as tie
+use Rattle.elimination.proofs.positions.is_among.Statement.{statement}
+use Rattle.elimination.proofs.positions.is_among.Tie as tie
 
 pub is-among-spec : {M : Type 1} → statement M
 unfolding among
