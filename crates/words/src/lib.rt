@@ -21,7 +21,7 @@ use field::tables::LOG;
 use graph::Answer;
 use graph::Code;
 
-mod checks;
+pub mod checks;
 mod encoder;
 mod positions;
 

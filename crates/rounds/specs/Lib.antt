@@ -1,0 +1,10 @@
+pub mod Tanner
+pub mod CheckStep
+pub mod VariableStep
+pub mod Round
+pub mod Begin
+pub mod Rounds
+pub mod Work
+pub mod Listed
+pub mod Checked
+pub mod GoneOn

@@ -1,0 +1,12 @@
+pub mod Float32
+pub mod Vector
+pub mod Normalized
+pub mod Wht
+pub mod Halves
+pub mod Multiplied
+pub mod Products
+pub mod Exp
+pub mod Channel
+pub mod Decision
+pub mod Fine
+pub mod KnownZero
