@@ -88,7 +88,7 @@ ofClass class [] = true
 ofClass class (t ∷ ts) = class (t .1) && ofClass class ts
 
 module _ (class : ℕ → Bool) where
-  of-class : (ts : List (Bool × ℕ)) → T (ofClass class ts) → refusal ts ≢ 0 → class (refusal ts) ≡ true
+  pub of-class : (ts : List (Bool × ℕ)) → T (ofClass class ts) → refusal ts ≢ 0 → class (refusal ts) ≡ true
   unfolding refusal
   of-class [] p z = absurd (z refl)
   of-class ((true, k) ∷ ts) p z = holds (class k) (and-parts (class k) (ofClass class ts) p .0)

@@ -37,6 +37,11 @@ module _ {ℓ} {A : Type ℓ} where
   unfolding laid
   laid-take l p k e = take-at l (drop (length l) p) k (sym e)
 
+  -- a list that is as long as the part
+  pub laid-all : (l p : List A) → length l ≡ length p → laid l p ≡ l
+  unfolding laid
+  laid-all l p e = rw (e, drop-length, append-nil)
+
   -- an entry under the list does not matter
   pub laid-set : (l p : List A) (i : ℕ) (x : A) → i < length l → laid l (set p i x) ≡ laid l p
   unfolding laid
@@ -56,8 +61,7 @@ module _ {ℓ} {A : Type ℓ} where
 
   -- the whole part
   pub fill-all : (f : ℕ → A) (n : ℕ) (p : List A) → n ≡ length p → laid (values n f) p ≡ values n f
-  unfolding laid
-  fill-all f n p e = rw (values-length f n, e, drop-length, append-nil)
+  fill-all f n p e = laid-all (values n f) p (values-length f n ∙ e)
 
   -- a loop that begins at 1, with the first entry written before it
   pub fill-first : (f : ℕ → A) (x : A) (p : List A) → x ≡ f 0 → 0 < length p → set p 0 x ≡ laid (values (0 + 1) f) (set p 0 x)

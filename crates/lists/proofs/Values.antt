@@ -1,13 +1,13 @@
 -- Laws of the list of given values: its entries and its length. A part that a loop fills with them is in Laid.antt.
 -- Assumes nothing.
-use Prim.Native.Nat.{ℕ, zero, suc, _+_, _-_, _<_}
+use Prim.Native.Nat.{ℕ, zero, suc, _+_, _-_, _<_, _≤_}
 use mathlib.Core.Path.{_≡_, refl, ap, sym, _∙_}
 use mathlib.Core.List.{List, [], _∷_, _++_, map, append-nil, append-assoc, reverse, reverse-cons}
 use native.Mathlib.Nat.{add-zero, zero-add, add-suc, suc-add, le-of-suc-le-suc, not-suc-le-zero}
 use native.Mathlib.Numerals.{add-one}
 use native.Mathlib.Omega.{arith}
-use lib.ListN.{length, getD, replicate}
-use lib.Seq.{ext-getD}
+use lib.ListN.{length, getD, replicate, take}
+use lib.Seq.{ext-getD, length-take-le, getD-take}
 use Rattle.lists.specs.Values.{values, valuesFrom}
 
 module _ {ℓ} {A : Type ℓ} (f : ℕ → A) where
@@ -60,6 +60,12 @@ pub values-own {ℓ} : {A : Type ℓ} (d : A) (l : List A) → values (length l)
 values-own d l =
     ext-getD d (values (length l) (λ k. getD l k d)) l (values-length (λ k. getD l k d) (length l))
     (λ k h. values-at (λ k. getD l k d) (length l) k d (omega (arith, values-length (λ k. getD l k d) (length l))))
+
+-- those of its first n
+pub values-take {ℓ} : {A : Type ℓ} (d : A) (n : ℕ) (l : List A) → n ≤ length l → values n (λ k. getD l k d) ≡ take n l
+values-take d n l h =
+    values-ext n (λ k. getD l k d) (λ k. getD (take n l) k d) d (λ k b. sym (getD-take n l k d b))
+    ∙ ap (λ (k : ℕ). values k (λ i. getD (take n l) i d)) (sym (length-take-le n l h)) ∙ values-own d (take n l)
 
 -- a function of each value
 map-from {ℓ ℓ′} : {A : Type ℓ} {B : Type ℓ′} (h : A → B) (i n : ℕ) (f : ℕ → A) → map h (valuesFrom i n f) ≡ valuesFrom i n (λ k. h (f k))

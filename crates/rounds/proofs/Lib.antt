@@ -6,3 +6,5 @@ pub mod CheckMessages
 pub mod RoundMade
 pub mod Beginning
 pub mod GoingOn
+pub mod FineRounds
+pub mod KnownRounds

@@ -1,0 +1,9 @@
+pub mod Copied
+pub mod Beginning
+pub mod Sizes
+pub mod Running
+pub mod Turned
+pub mod DecodingEnds
+pub mod ReadyCode
+pub mod Theorem
+pub mod Starred

@@ -1,0 +1,3 @@
+pub mod BeliefPropagation
+pub mod DecodeSoft
+pub mod Decode

@@ -1,0 +1,162 @@
+// The decoders of a lent code. The public calls of document 01's part 4 stand here.
+ghost use mathlib.Core.Path.{_≡_};
+ghost use Rattle.graph.specs.Parts.{lent};
+ghost use Rattle.lent.specs.LentCode.{lentMatrix};
+ghost use Rattle.decoders.specs.DecodeSoft.{DecodedSoft, decodeSoft};
+ghost use Rattle.decoders.specs.Decode.{Decoded, decode};
+use calls::clear::clear_f32;
+use graph::Answer;
+use graph::Code;
+
+mod belief_propagation;
+mod out;
+mod refusals;
+
+// What a decoding answers: whether there is a word, and how many rounds were made.
+pub struct Decoding {
+    pub answer: Answer,
+    pub rounds: u32,
+}
+
+// Belief propagation: the decisions of the first round up to the limit that satisfies all checks, and the last round's posteriors.
+pub fn decode_soft(
+    code: Code,
+    var: &[u16],
+    coef: &[u8],
+    row: &[u16],
+    start: &[u16],
+    col: &[u16],
+    order: &[u16],
+    parity: &[u16],
+    info: &[u16],
+    a: &[u8],
+    metrics: &[f32],
+    known: u32,
+    limit: u32,
+    word: &mut [u8],
+    posteriors: &mut [f32],
+    h: &mut [u8],
+    pivots: &mut [u16],
+    vectors: &mut [f32],
+) -> Decoding
+    ensures { λ r. ⌜ _≡_ {A = DecodedSoft} (record {
+      answer = r;
+      word = now (word .exit);
+      posteriors = now (posteriors .exit);
+      work = lentMatrix (h .exit) (pivots .exit);
+      vectors = now (vectors .exit);
+    })
+        (decodeSoft code (lent (var .entry) (coef .entry) (row .entry) (start .entry) (col .entry) (order .entry) (parity .entry) (info .entry) (a .entry))
+        (now (metrics .entry)) known limit (now (word .entry)) (now (posteriors .entry)) (lentMatrix (h .entry) (pivots .entry)) (now (vectors .entry))) ⌝ }
+{
+    let rest = refusals::misfit(code.n, metrics.len())
+        | ((word.len() != code.n)
+            | (refusals::misfit(code.n, posteriors.len()) | (vectors.len() != 50176)));
+    let refused = refusals::refused(
+        code,
+        var,
+        coef,
+        row,
+        start,
+        col,
+        order,
+        parity,
+        info,
+        a,
+        limit,
+        h,
+        pivots,
+        vectors,
+        rest,
+    );
+    if refused != 0 {
+        return Decoding {
+            answer: Answer::Refused(refused),
+            rounds: 0,
+        };
+    }
+    let ended = belief_propagation::run(
+        code,
+        var,
+        coef,
+        row,
+        start,
+        col,
+        info,
+        metrics,
+        known,
+        limit,
+        h,
+        vectors,
+    );
+    out::copy_posteriors(code.n, vectors, posteriors);
+    clear_f32(vectors);
+    out::finish(ended, h, word)
+}
+
+// The same without the posteriors.
+pub fn decode(
+    code: Code,
+    var: &[u16],
+    coef: &[u8],
+    row: &[u16],
+    start: &[u16],
+    col: &[u16],
+    order: &[u16],
+    parity: &[u16],
+    info: &[u16],
+    a: &[u8],
+    metrics: &[f32],
+    known: u32,
+    limit: u32,
+    word: &mut [u8],
+    h: &mut [u8],
+    pivots: &mut [u16],
+    vectors: &mut [f32],
+) -> Decoding
+    ensures { λ r. ⌜ _≡_ {A = Decoded} (record { answer = r; word = now (word .exit); work = lentMatrix (h .exit) (pivots .exit); vectors = now (vectors .exit) })
+        (decode code (lent (var .entry) (coef .entry) (row .entry) (start .entry) (col .entry) (order .entry) (parity .entry) (info .entry) (a .entry))
+        (now (metrics .entry)) known limit (now (word .entry)) (lentMatrix (h .entry) (pivots .entry)) (now (vectors .entry))) ⌝ }
+{
+    let rest = refusals::misfit(code.n, metrics.len())
+        | ((word.len() != code.n) | (vectors.len() != 50176));
+    let refused = refusals::refused(
+        code,
+        var,
+        coef,
+        row,
+        start,
+        col,
+        order,
+        parity,
+        info,
+        a,
+        limit,
+        h,
+        pivots,
+        vectors,
+        rest,
+    );
+    if refused != 0 {
+        return Decoding {
+            answer: Answer::Refused(refused),
+            rounds: 0,
+        };
+    }
+    let ended = belief_propagation::run(
+        code,
+        var,
+        coef,
+        row,
+        start,
+        col,
+        info,
+        metrics,
+        known,
+        limit,
+        h,
+        vectors,
+    );
+    clear_f32(vectors);
+    out::finish(ended, h, word)
+}
