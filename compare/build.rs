@@ -1,10 +1,12 @@
-//! Makes the copy of the original that is compared, by exact replacements, and links the static
+//! Makes the copies of the original that are compared, by exact replacements, and links the static
 //! library.
 //!
-//! The copy goes to cargo's output folder and is never committed. Its arithmetic is the original's:
-//! the replacements open private items and make the text fit to be included. Where the original is
-//! not as expected, the build stops and says what did not fit. The SHA-256 of the source is checked
-//! by compare/run; the exact replacements hold also without it.
+//! The copies go to cargo's output folder and are never committed. Their arithmetic is the
+//! original's: the replacements open private items, make the text fit to be included and set a
+//! sibling beside `decode_soft`. One copy keeps the Rust's own exp, and in the one that ours is held
+//! to document 01's stands in for it. Where the original is not as expected, the build stops and says
+//! what did not fit. The SHA-256 of the source is checked by compare/run; the exact replacements hold
+//! also without it.
 
 use std::path::{Path, PathBuf};
 use std::{env, fs};
@@ -16,7 +18,7 @@ struct Replacement {
     times: usize,
 }
 
-/// All that the copy of nb.rs differs in, in the order of the text.
+/// What both copies of nb.rs differ in, in the order of the text.
 const REPLACEMENTS: &[Replacement] = &[
     Replacement {
         purpose: "inner doc lines as plain comments, since include! takes none",
@@ -104,6 +106,50 @@ const REPLACEMENTS: &[Replacement] = &[
     },
 ];
 
+/// All that the sibling of `decode_soft` differs in: it also tells how many rounds were done, and the
+/// posteriors of a word that is found.
+const SIBLING: &[Replacement] = &[
+    Replacement {
+        purpose: "another name and a longer answer",
+        old: "pub fn decode_soft(&self, metrics: &[f32], known: usize, max_iter: usize) \
+            -> Result<Vec<u8>, Vec<f32>> {",
+        new: "pub fn decode_rounds(&self, metrics: &[f32], known: usize, max_iter: usize) \
+            -> (Option<Vec<u8>>, usize, Vec<f32>) {",
+        times: 1,
+    },
+    Replacement {
+        purpose: "number the rounds from 1",
+        old: "for _ in 0..max_iter {",
+        new: "for round in 1..=max_iter {",
+        times: 1,
+    },
+    Replacement {
+        purpose: "tell the satisfied round and its posteriors",
+        old: "return Ok(hard);",
+        new: "return (Some(hard), round, posts);",
+        times: 1,
+    },
+    Replacement {
+        purpose: "tell that all rounds were done",
+        old: "Err(posts)",
+        new: "(None, max_iter, posts)",
+        times: 1,
+    },
+];
+
+/// The method that the sibling is made of: how it begins, and what ends it.
+const DECODE_SOFT_HEAD: &str = "    pub fn decode_soft(";
+const METHOD_END: &str = "\n    }\n";
+
+/// Document 01's stand-ins, in the copy that ours is held to; `decode_soft` and its sibling have one
+/// each.
+const STAND_INS: &[Replacement] = &[Replacement {
+    purpose: "document 01's exp",
+    old: "*o = (l - mx).max(-60.0).exp();",
+    new: "*o = crate::stand_ins::exp((l - mx).max(-60.0));",
+    times: 2,
+}];
+
 /// The first lines of the enum that is cut out of fec.rs, and what ends it.
 const RATE_HEAD: &str = "#[derive(Clone, Copy, Debug, PartialEq, Eq, Hash)]\npub enum Rate {\n";
 const RATE_END: &str = "\n}\n";
@@ -117,8 +163,16 @@ fn main() {
     let source = folder("HAZGUNEK_SOURCE", root.join("../shared/docs/src"));
     let nb = text(&source.join("crates/ion/src/fec/nb.rs"));
     let fec = text(&source.join("crates/ion/src/fec.rs"));
-    write(&out.join("nb.rs"), &REPLACEMENTS.iter().fold(nb, replaced));
-    write(&out.join("rate.rs"), cut(&fec, RATE_HEAD, RATE_END));
+    let own_exp = with_sibling(REPLACEMENTS.iter().fold(nb, replaced));
+    write(&out.join("nb_own_exp.rs"), &own_exp);
+    write(
+        &out.join("nb.rs"),
+        &STAND_INS.iter().fold(own_exp, replaced),
+    );
+    write(
+        &out.join("rate.rs"),
+        cut("fec.rs", &fec, RATE_HEAD, RATE_END),
+    );
 
     link(&folder(
         "HAZGUNEK_ARCHIVE_DIR",
@@ -161,17 +215,24 @@ fn replaced(text: String, r: &Replacement) -> String {
     text.replace(r.old, r.new)
 }
 
-/// The piece of fec.rs from `head`, which must occur once, to the first `end` after it, both kept.
-fn cut<'a>(text: &'a str, head: &str, end: &str) -> &'a str {
+/// The text with the sibling after `decode_soft`.
+fn with_sibling(text: String) -> String {
+    let method = cut("nb.rs", &text, DECODE_SOFT_HEAD, METHOD_END);
+    let sibling = SIBLING.iter().fold(method.to_string(), replaced);
+    text.replacen(method, &format!("{method}\n{sibling}"), 1)
+}
+
+/// The piece of a file from `head`, which must occur once, to the first `end` after it, both kept.
+fn cut<'a>(file: &str, text: &'a str, head: &str, end: &str) -> &'a str {
     let found = text.matches(head).count();
     assert!(
         found == 1,
-        "fec.rs: {head:?} must occur once and occurs {found} times"
+        "{file}: {head:?} must occur once and occurs {found} times"
     );
     let from = &text[text.find(head).unwrap()..];
     let length = from
         .find(end)
-        .unwrap_or_else(|| panic!("fec.rs: no {end:?} after {head:?}"));
+        .unwrap_or_else(|| panic!("{file}: no {end:?} after {head:?}"));
     &from[..length + end.len()]
 }
 

@@ -3,6 +3,8 @@
 //! Nothing checks the declarations: the linker goes by names alone. They are kept in step with
 //! include/hazgunek.h by hand, and stand in its order.
 
+use crate::float::Float;
+
 unsafe extern "C" {
     fn hazgunek_mul(a: u8, b: u8, product: *mut u8) -> u8;
     fn hazgunek_inv(a: u8, inverse: *mut u8) -> u8;
@@ -47,9 +49,12 @@ unsafe extern "C" {
 
 /// Declares calls on a lent code, its rank being lent as said, and by the pointers said the parts that
 /// go by its column order. Before a call's own arguments stand those of the code, after them the work
-/// parts.
+/// parts that all have, and then what stands past a semicolon.
 macro_rules! calls_on_code {
-    (rank: $rank:ty, encoder: *$encoder:tt; $(fn $name:ident($($own:ident: $kind:ty),*);)*) => {
+    (
+        rank: $rank:ty, encoder: *$encoder:tt;
+        $(fn $name:ident($($own:ident: $kind:ty),*$(; $($more:ident: $more_kind:ty),*)?);)*
+    ) => {
         unsafe extern "C" {
             $(fn $name(
                 n: usize,
@@ -79,6 +84,7 @@ macro_rules! calls_on_code {
                 h_len: usize,
                 pivots: *mut u16,
                 pivots_len: usize,
+                $($($more: $more_kind,)*)?
             ) -> u8;)*
         }
     };
@@ -105,6 +111,30 @@ calls_on_code! {
         count: *mut usize,
         picks: *mut u16,
         picks_len: usize
+    );
+    fn hazgunek_decode_soft(
+        metrics: *const Float,
+        metrics_len: usize,
+        known: u32,
+        limit: u32,
+        rounds: *mut u32,
+        word: *mut u8,
+        word_len: usize,
+        posteriors: *mut Float,
+        posteriors_len: usize;
+        vectors: *mut Float,
+        vectors_len: usize
+    );
+    fn hazgunek_decode(
+        metrics: *const Float,
+        metrics_len: usize,
+        known: u32,
+        limit: u32,
+        rounds: *mut u32,
+        word: *mut u8,
+        word_len: usize;
+        vectors: *mut Float,
+        vectors_len: usize
     );
 }
 
@@ -237,7 +267,7 @@ impl<'a> OverCode<'a> {
 /// Makes a call on a lent code, with its own arguments; `$pointer` gives the pointers to the parts
 /// that go by the column order.
 macro_rules! call_on_code {
-    ($on:ident, $pointer:ident, $name:ident($($own:expr),*)) => {{
+    ($on:ident, $pointer:ident, $name:ident($($own:expr),*$(; $($more:expr),*)?)) => {{
         let [var, row, start, col] = $on.graph;
         let [order, parity, info] = $on.encoder;
         unsafe {
@@ -269,6 +299,7 @@ macro_rules! call_on_code {
                 $on.h.len(),
                 $on.pivots.as_mut_ptr(),
                 $on.pivots.len(),
+                $($($more,)*)?
             )
         }
     }};
@@ -343,5 +374,57 @@ pub fn with_peeled_info(over: OverCode, prefer: &[i64]) -> u8 {
         over,
         as_mut_ptr,
         hazgunek_with_peeled_info(prefer.as_ptr(), prefer.len())
+    )
+}
+
+/// What a decoding is given beside the code.
+pub struct Received<'a> {
+    pub metrics: &'a [Float],
+    pub known: u32,
+    pub limit: u32,
+}
+
+/// The parts that both decodings write.
+pub struct Worked<'a> {
+    pub rounds: &'a mut u32,
+    pub word: &'a mut [u8],
+    pub vectors: &'a mut [Float],
+}
+
+pub fn decode_soft(on: OnCode, received: Received, worked: Worked, posteriors: &mut [Float]) -> u8 {
+    call_on_code!(
+        on,
+        as_ptr,
+        hazgunek_decode_soft(
+            received.metrics.as_ptr(),
+            received.metrics.len(),
+            received.known,
+            received.limit,
+            worked.rounds,
+            worked.word.as_mut_ptr(),
+            worked.word.len(),
+            posteriors.as_mut_ptr(),
+            posteriors.len();
+            worked.vectors.as_mut_ptr(),
+            worked.vectors.len()
+        )
+    )
+}
+
+pub fn decode(on: OnCode, received: Received, worked: Worked) -> u8 {
+    call_on_code!(
+        on,
+        as_ptr,
+        hazgunek_decode(
+            received.metrics.as_ptr(),
+            received.metrics.len(),
+            received.known,
+            received.limit,
+            worked.rounds,
+            worked.word.as_mut_ptr(),
+            worked.word.len();
+            worked.vectors.as_mut_ptr(),
+            worked.vectors.len()
+        )
     )
 }

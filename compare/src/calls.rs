@@ -1,5 +1,7 @@
 //! Calls to make on a lent code: arguments of every kind.
 
+use crate::decode_call::Decoding;
+use crate::metrics;
 use crate::on_code::Call;
 use crate::oracle::NbCode;
 use crate::preferences;
@@ -12,6 +14,9 @@ pub fn each_call(random: &mut Random, n: usize, k: usize) -> Vec<Call> {
     let count = random.below(k + 2);
     let (syms, word) = (random.symbols(count, 256), random.symbols(n, limit));
     let prefer = preferences::at_random(random, n);
+    let sent = random.symbols(n, 32);
+    let metrics = metrics::at_random(random, &sent);
+    let decoding = Decoding::new(metrics, random.below(k + 2) as u32, random.below(4) as u32);
     vec![
         Call::Encode { syms, word: n },
         Call::InfoOf {
@@ -30,6 +35,8 @@ pub fn each_call(random: &mut Random, n: usize, k: usize) -> Vec<Call> {
             picks: n,
         },
         Call::WithPeeledInfo { prefer },
+        Call::Decode(decoding.without_posteriors()),
+        Call::Decode(decoding),
     ]
 }
 

@@ -77,7 +77,7 @@ pub fn write_line(text: &mut String, code: &CodeOfLine, call: Call, arguments: &
 }
 
 /// The number and what the call leaves in its outputs, in which every entry was 1; a code that is
-/// written over was as lent.
+/// written over was as lent. Of a float the bits are listed; none is a NaN.
 fn answers(asked: &Asked) -> Vec<u64> {
     let answer = asked.answer();
     let found = answer.found.unwrap_or(0) as u64;
@@ -89,6 +89,10 @@ fn answers(asked: &Asked) -> Vec<u64> {
         let positions = answer.positions.clone().unwrap_or(vec![1; n]);
         digest(positions.into_iter().map(u64::from))
     };
+    let posteriors = |n| {
+        let posteriors = answer.posteriors.clone().unwrap_or(vec![1.0.into(); n]);
+        digest(posteriors.into_iter().map(|x| x.bits().into()))
+    };
     let left = match asked.call {
         Call::Encode { word, .. } => vec![symbols(word)],
         Call::InfoOf { syms, .. } => vec![found, symbols(syms)],
@@ -98,8 +102,16 @@ fn answers(asked: &Asked) -> Vec<u64> {
             vec![found, positions(n)]
         }
         Call::WithPeeledInfo { .. } => written_over(asked, answer.code.as_ref()),
+        Call::Decode(ref decoding) => {
+            let rounds = answer.rounds.unwrap_or(0).into();
+            let soft = decoding.posteriors.map(posteriors);
+            [rounds, symbols(decoding.word)]
+                .into_iter()
+                .chain(soft)
+                .collect()
+        }
     };
-    [&[asked.number().into()], &left[..]].concat()
+    [&[answer.number.into()], &left[..]].concat()
 }
 
 /// The rank that is answered, 0 for none, and what stands in the parts of a code that is written

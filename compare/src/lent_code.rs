@@ -1,11 +1,12 @@
 //! The parts that a call on a lent code is lent, each guarded, and what must stand in them after
 //! it.
 
-use crate::abi::{self, OverCode};
+use crate::abi::{self, OverCode, Received, Worked};
 use crate::code::{
     A, COEF, COL, Code, INFO, NAMES, ORDER, PARITY, RANK, ROW, START, VAR, narrowed,
 };
 use crate::filling::Filling;
+use crate::float::Float;
 use crate::guarded::Guarded;
 use crate::on_code::{Answer, Call};
 use crate::report::Case;
@@ -89,34 +90,48 @@ impl LentCode {
     }
 }
 
-/// The parts that a call has beside the code: what it reads, and an output of each kind. Those that
-/// it does not have are not lent to it.
+/// The parts that a call has beside the code: what it reads, an output of each kind, and the work
+/// part of a decoding. Those that it does not have are not lent to it.
 pub struct LentOwn {
     given: Guarded<u8>,
     prefer: Guarded<i64>,
+    metrics: Guarded<Float>,
     found: Guarded<usize>,
     ok: Guarded<u8>,
     symbols: Guarded<u8>,
     positions: Guarded<u16>,
+    rounds: Guarded<u32>,
+    posteriors: Guarded<Float>,
+    vectors: Guarded<Float>,
 }
 
 impl LentOwn {
-    /// The filling stands in every output, and around every part.
+    /// The filling stands in every output and work part, and around every part.
     pub fn new(call: &Call, filling: &Filling) -> Self {
         let (symbols, positions) = match *call {
             Call::Encode { word, .. } => (word, 0),
             Call::InfoOf { syms, .. } => (syms, 0),
             Call::InfoPositions { positions } => (0, positions),
             Call::PeelPicks { picks, .. } => (0, picks),
+            Call::Decode(ref decoding) => (decoding.word, 0),
             _ => (0, 0),
         };
+        let (posteriors, vectors) = match call {
+            Call::Decode(decoding) => (decoding.posteriors.unwrap_or(0), decoding.vectors),
+            _ => (0, 0),
+        };
+        let floats = |length| Guarded::new(&vec![filling.float(); length], filling.float());
         Self {
             given: Guarded::new(call.given(), filling.narrow),
             prefer: Guarded::new(call.prefer(), filling.number as i64),
+            metrics: Guarded::new(call.metrics(), filling.float()),
             found: Guarded::new(&[filling.number], filling.number),
             ok: Guarded::new(&[filling.narrow], filling.narrow),
             symbols: Guarded::new(&vec![filling.narrow; symbols], filling.narrow),
             positions: Guarded::new(&vec![filling.wide; positions], filling.wide),
+            rounds: Guarded::new(&[filling.long()], filling.long()),
+            posteriors: floats(posteriors),
+            vectors: floats(vectors),
         }
     }
 
@@ -138,13 +153,36 @@ impl LentOwn {
             Call::InfoPositions { .. } => abi::info_positions(on, found, positions),
             Call::PeelPicks { .. } => abi::peel_picks(on, prefer, found, positions),
             Call::WithPeeledInfo { .. } => unreachable!("it writes over the code"),
+            Call::Decode(ref decoding) => {
+                let received = Received {
+                    metrics: self.metrics.lend(),
+                    known: decoding.known,
+                    limit: decoding.limit,
+                };
+                let worked = Worked {
+                    rounds: self.rounds.lend_one(),
+                    word: symbols,
+                    vectors: self.vectors.lend(),
+                };
+                match decoding.posteriors {
+                    Some(_) => abi::decode_soft(on, received, worked, self.posteriors.lend()),
+                    None => abi::decode(on, received, worked),
+                }
+            }
         }
     }
 
-    /// A call leaves what it reads as it was, and the answer in its outputs, or what was there.
+    /// The rounds that a decoding reported.
+    pub fn rounds(&self) -> u32 {
+        self.rounds.part()[0]
+    }
+
+    /// A call leaves what it reads as it was, and the answer in its outputs, or what was there. The
+    /// work part is as those of the code are.
     pub fn compare(&self, case: &mut Case, call: &Call, filling: &Filling, answer: &Answer) {
         self.given.compare(case, "symbols read", call.given());
         self.prefer.compare(case, "preferences", call.prefer());
+        self.metrics.compare(case, "metrics", call.metrics());
         let found = answer.found.unwrap_or(filling.number);
         self.found.compare_one(case, "number found", found);
         let ok = answer.ok.unwrap_or(filling.narrow);
@@ -155,5 +193,20 @@ impl LentOwn {
         let before = vec![filling.wide; self.positions.part().len()];
         let positions = answer.positions.as_ref().unwrap_or(&before);
         self.positions.compare(case, "positions", positions);
+        self.compare_decoding(case, filling, answer);
+    }
+
+    fn compare_decoding(&self, case: &mut Case, filling: &Filling, answer: &Answer) {
+        let rounds = answer.rounds.unwrap_or(filling.long());
+        self.rounds.compare_one(case, "rounds", rounds);
+        let before = vec![filling.float(); self.posteriors.part().len()];
+        let posteriors = answer.posteriors.as_ref().unwrap_or(&before);
+        self.posteriors.compare(case, "posteriors", posteriors);
+        let left = match answer.number {
+            2 | 3 => filling.float(),
+            _ => Float::of_bits(0),
+        };
+        let vectors = vec![left; self.vectors.part().len()];
+        self.vectors.compare(case, "work part vectors", &vectors);
     }
 }

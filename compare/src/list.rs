@@ -3,6 +3,7 @@
 //!
 //! A proved program replays them where no Rust is at hand.
 
+use crate::decoding_list;
 use crate::field;
 use crate::graph;
 use crate::peeling_list;
@@ -31,6 +32,10 @@ const LISTS: &[List] = &[
     List {
         layer: "peeling",
         text: peeling_list::list,
+    },
+    List {
+        layer: "decoding",
+        text: decoding_list::list,
     },
 ];
 

@@ -1,7 +1,7 @@
 //! The differences that docs/DIFFERENCES.md lists, each at its smallest input: the original still
 //! does what the document says of it. What ours does instead is compared with the other calls.
 
-use crate::oracle::{GF, NbCode, even_degrees};
+use crate::oracle::{GF, NbCode, OwnExpCode, even_degrees};
 use crate::report::{Case, HeldTo, Tally};
 use std::panic::{catch_unwind, set_hook, take_hook};
 
@@ -119,7 +119,40 @@ const LISTED: &[(&str, Outcome, Call)] = &[
         Outcome::Answers(1),
         || one_edge().with_peeled_info(by(&[])).parity.len(),
     ),
+    (
+        "decode_soft(one metric) of n 0, m 0",
+        Outcome::Panics,
+        || rounds(&nothing(), &[0.0], 0),
+    ),
+    (
+        "decode_soft(no metrics) of n 1, m 0",
+        Outcome::Panics,
+        || rounds(&no_checks(), &[], 0),
+    ),
+    (
+        "decode_soft(1056*0.0, one round) of n 33, m 1, degrees 33*1",
+        Outcome::Panics,
+        || rounds(&NbCode::new(33, 1, &[1; 33], 0), &[0.0; 1_056], 1),
+    ),
+    (
+        "decode_soft(2.0, 31*0.0, one round) of n 1, m 0, bits of posterior 1",
+        Outcome::Answers(1_020_617_962),
+        own_posterior,
+    ),
 ];
+
+/// How many rounds are done, with all symbols known.
+fn rounds(code: &NbCode, metrics: &[f32], limit: usize) -> usize {
+    code.decode_rounds(metrics, code.k(), limit).1
+}
+
+/// With the Rust's own exp.
+fn own_posterior() -> usize {
+    let mut metrics = [0.0; 32];
+    metrics[0] = 2.0;
+    let code = OwnExpCode::new(1, 0, &[0], 0);
+    code.decode_rounds(&metrics, 1, 1).2[1].to_bits() as usize
+}
 
 /// A preference function that reads a list.
 fn by(prefer: &'static [i64]) -> impl Fn(usize) -> i64 {

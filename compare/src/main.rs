@@ -2,14 +2,20 @@
 //! answers. `compare/run` builds and starts it.
 
 mod abi;
+mod arithmetic;
 mod asked;
 mod calls;
 mod code;
 mod code_lists;
 mod codes;
 mod damage;
+mod decode_call;
+mod decoding;
+mod decoding_list;
+mod decoding_speed;
 mod field;
 mod filling;
+mod float;
 mod graph;
 mod guarded;
 mod judge;
@@ -17,15 +23,19 @@ mod lent;
 mod lent_code;
 mod list;
 mod listed;
+mod metrics;
 mod on_code;
 mod oracle;
+mod own_exp;
 mod peeling;
 mod peeling_list;
 mod preferences;
 mod random;
 mod refused;
 mod report;
+mod rounds;
 mod speed;
+mod stand_ins;
 mod ties;
 mod words;
 mod words_list;
@@ -69,6 +79,7 @@ fn compare() -> ExitCode {
     graph::measure();
     words::measure();
     peeling::measure();
+    decoding_speed::measure();
     if differences == 0 {
         println!("no differences");
         ExitCode::SUCCESS
@@ -83,6 +94,7 @@ fn compare_on_codes() -> u64 {
     let mut tallies = Tallies::new();
     words::compare(&mut tallies);
     peeling::compare(&mut tallies);
+    decoding::compare(&mut tallies);
     refused::compare(&mut tallies);
     tallies.finish()
 }

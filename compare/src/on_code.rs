@@ -1,11 +1,14 @@
 //! One call on a lent code: what it is asked, and what document 01 and the original make of it.
 
 use crate::code::{Code, NAMES};
+use crate::decode_call::Decoding;
 use crate::filling::BEFORE;
+use crate::float::Float;
 use crate::judge::judged;
 use crate::lent_code::{LentCode, LentOwn};
 use crate::oracle::NbCode;
 use crate::report::{Case, HeldTo, Tally};
+use crate::rounds::Rounds;
 use crate::ties::Ties;
 use std::cell::RefCell;
 use std::fmt;
@@ -37,7 +40,8 @@ impl Judged {
     }
 }
 
-/// A call with what it reads beside the code, and the length of the part that it fills.
+/// A call with what it reads beside the code, and the length of the part that it fills. `Decode` is
+/// `decode_soft` where it has posteriors, and `decode` where it has none.
 #[derive(Clone)]
 pub enum Call {
     Encode { syms: Vec<u8>, word: usize },
@@ -49,10 +53,11 @@ pub enum Call {
     InfoPositions { positions: usize },
     PeelPicks { prefer: Vec<i64>, picks: usize },
     WithPeeledInfo { prefer: Vec<i64> },
+    Decode(Decoding),
 }
 
 /// The calls' names, in the order of the header.
-pub const CALLS: [&str; 9] = [
+pub const CALLS: [&str; 11] = [
     "encode",
     "info_of",
     "checks_ok",
@@ -62,6 +67,8 @@ pub const CALLS: [&str; 9] = [
     "info_positions",
     "peel_picks",
     "with_peeled_info",
+    "decode_soft",
+    "decode",
 ];
 
 impl Call {
@@ -77,6 +84,8 @@ impl Call {
             Call::InfoPositions { .. } => 6,
             Call::PeelPicks { .. } => 7,
             Call::WithPeeledInfo { .. } => 8,
+            Call::Decode(decoding) if decoding.posteriors.is_some() => 9,
+            Call::Decode(_) => 10,
         }
     }
 
@@ -97,10 +106,18 @@ impl Call {
         }
     }
 
-    /// The lengths of its own parts that must be n: "preferences, words .. n", and the output
-    /// parts, which docs/PARTS.md gives that length. Information symbols for `encode` may have any.
-    fn lengths(&self) -> Vec<usize> {
+    /// The metrics that it reads.
+    pub fn metrics(&self) -> &[Float] {
         match self {
+            Call::Decode(decoding) => &decoding.metrics.floats,
+            _ => &[],
+        }
+    }
+
+    /// Whether its own parts have their lengths: "preferences, words .. n", and the output parts,
+    /// which docs/PARTS.md gives that length. Information symbols for `encode` may have any.
+    fn fits(&self, n: usize) -> bool {
+        let lengths = match self {
             Call::Encode { word, .. } => vec![*word],
             Call::InfoOf { word, syms } => vec![word.len(), *syms],
             Call::ChecksOk { word } => vec![word.len()],
@@ -108,7 +125,9 @@ impl Call {
             Call::PeelPicks { prefer, picks } => vec![prefer.len(), *picks],
             Call::WithPeeledInfo { prefer } => vec![prefer.len()],
             Call::Degree { .. } | Call::K | Call::N => vec![],
-        }
+            Call::Decode(decoding) => return decoding.fits(n),
+        };
+        lengths.iter().all(|&length| length == n)
     }
 
     /// Number 8: "A word symbol above 31 .., a position not below n, more information symbols than
@@ -135,6 +154,7 @@ impl fmt::Display for Call {
             Call::InfoPositions { positions } => write!(f, "(positions of {positions})"),
             Call::PeelPicks { prefer, picks } => write!(f, "({prefer:?}, picks of {picks})"),
             Call::WithPeeledInfo { prefer } => write!(f, "({prefer:?})"),
+            Call::Decode(decoding) => write!(f, "{decoding}"),
         }
     }
 }
@@ -149,14 +169,19 @@ pub struct Asked<'a> {
     pub work: [usize; 2],
 }
 
-/// What a call that is not turned down puts in its outputs; nothing where it has none of that kind.
+/// Document 01's number, 0 where the call is not turned down, and what it puts in its outputs;
+/// nothing where it has none of that kind or leaves it as it was.
 #[derive(Default)]
 pub struct Answer {
+    pub number: u8,
     /// The count, the degree, k or n.
     pub found: Option<usize>,
     pub ok: Option<u8>,
     pub symbols: Option<Vec<u8>>,
     pub positions: Option<Vec<u16>>,
+    /// A decoding has them whatever its number is.
+    pub rounds: Option<u32>,
+    pub posteriors: Option<Vec<Float>>,
     /// The code, where it is written over.
     pub code: Option<Code>,
 }
@@ -179,25 +204,30 @@ impl<'a> Asked<'a> {
         }
     }
 
-    /// Document 01's number, 0 where the call is not turned down.
-    pub fn number(&self) -> u8 {
-        let own = self.call.lengths();
-        let fits = self.work == WORK && own.iter().all(|&length| length == self.on.code.n);
-        match &self.on.verdict {
-            Err(2) => 2,
-            _ if !fits => 3,
-            Err(number) => *number,
-            Ok(built) if self.call.is_out_of_range(built) => 8,
-            Ok(_) => 0,
+    /// Document 01's number where the call is turned down before its work, else 0.
+    fn refusal(&self) -> u8 {
+        match (&self.on.verdict, &self.call) {
+            (Err(2), _) => 2,
+            _ if self.work != WORK || !self.call.fits(self.on.code.n) => 3,
+            (Err(number), _) => *number,
+            (Ok(built), call) if call.is_out_of_range(built) => 8,
+            (Ok(built), Call::Decode(decoding)) if decoding.is_above_degree(built) => 9,
+            _ => 0,
         }
     }
 
-    /// The original's answer, nothing where the call is turned down.
+    /// The original's answer, nothing but a number where the call is turned down before its work.
     pub fn answer(&self) -> Answer {
-        if self.number() != 0 {
-            return Answer::default();
+        let mut answer = Answer {
+            number: self.refusal(),
+            // "zero for refusals 1 to 9"
+            rounds: matches!(self.call, Call::Decode(_)).then_some(0),
+            ..Answer::default()
+        };
+        if answer.number != 0 {
+            return answer;
         }
-        let (mut answer, built) = (Answer::default(), self.on.built());
+        let built = self.on.built();
         match &self.call {
             Call::Encode { syms, .. } => answer.symbols = Some(built.encode(syms)),
             Call::InfoOf { word, .. } => {
@@ -214,25 +244,32 @@ impl<'a> Asked<'a> {
                 answer.set_positions(&built.peel_picks(|v| prefer[v]), built.n);
             }
             Call::WithPeeledInfo { prefer } => answer.code = Some(Code::peeled(built, prefer)),
+            Call::Decode(decoding) => {
+                let decoded = decoding.decoded(built);
+                answer.number = decoded.number;
+                answer.rounds = Some(decoded.rounds);
+                answer.symbols = decoded.word;
+                answer.posteriors = decoding.posteriors.map(|_| decoded.posteriors);
+            }
         }
         answer
     }
 
     /// The call with both fillings.
-    fn compare(&self, tally: &mut Tally) {
-        let (number, answer) = (self.number(), self.answer());
+    fn compare(&self, tally: &mut Tally, answer: &Answer) {
         let left = answer.code.as_ref().unwrap_or(&self.on.code);
-        let held_to = match number {
-            0 => HeldTo::Rust,
+        let held_to = match answer.number {
+            // The original's rounds end without a word too.
+            0 | 10 => HeldTo::Rust,
             _ => HeldTo::Document,
         };
         for filling in &BEFORE {
             let mut code = LentCode::new(&self.on.code, self.work, filling);
             let mut own = LentOwn::new(&self.call, filling);
             let mut case = Case::held_to(held_to);
-            case.value("number", own.call(&self.call, &mut code), number);
-            code.compare(&mut case, left, filling, number);
-            own.compare(&mut case, &self.call, filling, &answer);
+            case.value("number", own.call(&self.call, &mut code), answer.number);
+            code.compare(&mut case, left, filling, answer.number);
+            own.compare(&mut case, &self.call, filling, answer);
             tally.count(case, || {
                 format!("{self} with {} in each byte", filling.narrow)
             });
@@ -270,10 +307,12 @@ fn padded<T: Clone + Default>(mut answer: Vec<T>, length: usize) -> Vec<T> {
     answer
 }
 
-/// The cases of each call, and the ties among those of `peel_picks` that are not turned down.
+/// The cases of each call, the ties among those of `peel_picks` that are not turned down, and the
+/// rounds of those of `decode_soft`.
 pub struct Tallies {
     calls: [Tally; CALLS.len()],
     ties: Ties,
+    rounds: Rounds,
 }
 
 impl Tallies {
@@ -281,14 +320,25 @@ impl Tallies {
         Self {
             calls: CALLS.map(Tally::new),
             ties: Ties::default(),
+            rounds: Rounds::default(),
         }
     }
 
-    pub fn ask(&mut self, asked: &Asked) {
-        asked.compare(&mut self.calls[asked.call.index()]);
-        if let (Call::PeelPicks { prefer, .. }, 0) = (&asked.call, asked.number()) {
-            self.ties.count(asked.on.built(), prefer);
+    /// Tells whether nothing differs.
+    pub fn ask(&mut self, asked: &Asked) -> bool {
+        let answer = asked.answer();
+        let tally = &mut self.calls[asked.call.index()];
+        let before = tally.differences();
+        asked.compare(tally, &answer);
+        let are_same = tally.differences() == before;
+        match (&asked.call, answer.number) {
+            (Call::PeelPicks { prefer, .. }, 0) => self.ties.count(asked.on.built(), prefer),
+            (Call::Decode(decoding), number) if decoding.posteriors.is_some() => {
+                self.rounds.count(number, answer.rounds.unwrap_or(0));
+            }
+            _ => (),
         }
+        are_same
     }
 
     pub fn ask_all(&mut self, on: &Judged, calls: Vec<Call>) {
@@ -301,6 +351,7 @@ impl Tallies {
     pub fn finish(self) -> u64 {
         let differences = self.calls.into_iter().map(Tally::finish).sum();
         self.ties.finish();
+        self.rounds.finish();
         differences
     }
 }

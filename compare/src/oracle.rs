@@ -1,16 +1,23 @@
-//! The original: build.rs's copy of nb.rs, beside the enum `Rate` of fec.rs, which it uses.
+//! The original: build.rs's copies of nb.rs, beside the enum `Rate` of fec.rs, which they use.
 
 // Most of the original is not called yet.
 #[allow(dead_code)]
 mod fec {
     include!(concat!(env!("OUT_DIR"), "/rate.rs"));
 
+    /// With document 01's stand-ins: what ours is held to.
     pub mod nb {
         include!(concat!(env!("OUT_DIR"), "/nb.rs"));
+    }
+
+    /// With the Rust's own exp.
+    pub mod nb_own_exp {
+        include!(concat!(env!("OUT_DIR"), "/nb_own_exp.rs"));
     }
 }
 
 pub use fec::nb::{GF, InfoSet, NbCode, RATES, code_at, degrees_for, even_degrees, mix};
+pub use fec::nb_own_exp::NbCode as OwnExpCode;
 
 /// Since `with_peeled_info` takes a code and gives another.
 impl Clone for NbCode {
@@ -24,6 +31,22 @@ impl Clone for NbCode {
             info: self.info.clone(),
             parity: self.parity.clone(),
             a: self.a.clone(),
+        }
+    }
+}
+
+/// The same code for the Rust's own exp.
+impl From<&NbCode> for OwnExpCode {
+    fn from(code: &NbCode) -> Self {
+        Self {
+            n: code.n,
+            m: code.m,
+            edges: code.edges.clone(),
+            row: code.row.clone(),
+            col: code.col.clone(),
+            info: code.info.clone(),
+            parity: code.parity.clone(),
+            a: code.a.clone(),
         }
     }
 }

@@ -4,6 +4,7 @@ use crate::calls::each_call;
 use crate::code::{Code, EDGES, LENGTHS, N, NAMES, ROW, START, VAR};
 use crate::codes;
 use crate::damage::{Change, at_random, changed, each_change, number_changes};
+use crate::decode_call::{Decoding, VECTORS};
 use crate::on_code::{Asked, Call, Judged, Tallies, WORK};
 use crate::oracle::NbCode;
 use crate::random::Random;
@@ -80,13 +81,41 @@ fn compare_own_lengths(tallies: &mut Tallies, on: &Judged, calls: &[Call]) {
                 tallies.ask(&asked);
             }
         }
-        for length in wrong(on.code.n.min(256)) {
+        let n = on.code.n.min(256);
+        if let Call::Decode(decoding) = call {
+            let wrong = with_wrong_lengths(decoding, n);
+            tallies.ask_all(on, wrong.into_iter().map(Call::Decode).collect());
+        }
+        for length in wrong(n) {
             tallies.ask_all(on, with_own_length(call, length));
         }
     }
 }
 
-/// The call with another length of each of its own parts that have one to keep.
+/// Another length of each of a decoding's own parts.
+fn with_wrong_lengths(decoding: &Decoding, n: usize) -> Vec<Decoding> {
+    let mut all = Vec::new();
+    let mut add = |right, set: &dyn Fn(&mut Decoding, usize)| {
+        for length in wrong(right) {
+            let mut decoding = decoding.clone();
+            set(&mut decoding, length);
+            all.push(decoding);
+        }
+    };
+    add(32 * n, &|decoding, length| {
+        decoding.metrics.floats.resize(length, 0.0.into());
+    });
+    add(n, &|decoding, length| decoding.word = length);
+    add(VECTORS, &|decoding, length| decoding.vectors = length);
+    if decoding.posteriors.is_some() {
+        add(32 * n, &|decoding, length| {
+            decoding.posteriors = Some(length);
+        });
+    }
+    all
+}
+
+/// The call with another length of each of its own parts that must have n entries, but a decoding.
 fn with_own_length(call: &Call, length: usize) -> Vec<Call> {
     match call.clone() {
         Call::Encode { syms, .. } => vec![Call::Encode { syms, word: length }],
@@ -114,7 +143,7 @@ fn with_own_length(call: &Call, length: usize) -> Vec<Call> {
         Call::WithPeeledInfo { prefer } => vec![Call::WithPeeledInfo {
             prefer: resized(&prefer, length, 0),
         }],
-        Call::Degree { .. } | Call::K | Call::N => vec![],
+        Call::Degree { .. } | Call::K | Call::N | Call::Decode(_) => vec![],
     }
 }
 

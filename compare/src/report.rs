@@ -118,6 +118,11 @@ impl Tally {
         }
     }
 
+    /// So far.
+    pub fn differences(&self) -> u64 {
+        self.differences
+    }
+
     /// Prints the call's line and gives its number of differences.
     pub fn finish(self) -> u64 {
         println!(

@@ -7,3 +7,4 @@ pub mod NewCode
 pub mod OnCode
 pub mod ChecksOk
 pub mod WithPeeledInfo
+pub mod Decoding

@@ -15,6 +15,7 @@ use field::splitmix64::SplitMix64;
 use graph::Answer;
 use graph::NewCode;
 
+mod decoder_calls;
 mod on_code;
 mod peeling_calls;
 
