@@ -202,6 +202,47 @@ uint8_t hazgunek_with_peeled_info(size_t n, size_t m, size_t edges, size_t *rank
                                   const int64_t *prefer, size_t prefer_len,
                                   uint8_t *h, size_t h_len, uint16_t *pivots, size_t pivots_len);
 
+/* Decoding by belief propagation. metrics has 32 log-likelihoods for each of the n symbols, value by value, of any floats: a NaN counts
+ * for nothing, and 32 values that are all alike, all NaN or with one plus infinity say nothing of their symbol. The first `known`
+ * information positions may have any symbol, the later ones are known to be 0; a number above n - rank counts as n - rank. Both calls
+ * test the lent code as the calls on words do, and are turned down by 2, 3, 6 and 7 as those are. *rounds is written whatever the
+ * number: the number of the first round that satisfied all checks, the limit under 10, otherwise 0. */
+
+/* The length of the work part of vectors: 32 * (256 + 512 + 512 + 32 + 256). */
+#define HAZGUNEK_VECTORS 50176
+
+/* What a decoding works in beside the two work parts of the code's test. Any values may stand in it before a call. */
+struct hazgunek_vectors {
+    float vectors[HAZGUNEK_VECTORS];
+};
+
+#define HAZGUNEK_DECODING_WORK(work, floats) HAZGUNEK_WORK(work), (floats)->vectors, HAZGUNEK_VECTORS
+
+/* word = the word, where one of `limit` rounds satisfies all checks; posteriors = the last round's, 32 for each symbol, 0 where no round
+ * was made. 9: limit is not 0 and a check has more than 32 edges. 10: no round satisfied all checks; word is left as it was, posteriors
+ * are written. 2, 3, 6, 7 and 9 leave both as they were. With a code and work of the structs above:
+ *
+ *     number = hazgunek_decode_soft(HAZGUNEK_CODE(n, m, &code), metrics, 32 * n, known, 100, &rounds, word, n, posteriors, 32 * n,
+ *                                   HAZGUNEK_DECODING_WORK(&work, &floats)); */
+uint8_t hazgunek_decode_soft(size_t n, size_t m, size_t edges, size_t rank, const uint16_t *var, size_t var_len,
+                             const uint8_t *coef, size_t coef_len, const uint16_t *row, size_t row_len,
+                             const uint16_t *start, size_t start_len, const uint16_t *col, size_t col_len,
+                             const uint16_t *order, size_t order_len, const uint16_t *parity, size_t parity_len,
+                             const uint16_t *info, size_t info_len, const uint8_t *a, size_t a_len,
+                             const float *metrics, size_t metrics_len, uint32_t known, uint32_t limit, uint32_t *rounds,
+                             uint8_t *word, size_t word_len, float *posteriors, size_t posteriors_len,
+                             uint8_t *h, size_t h_len, uint16_t *pivots, size_t pivots_len, float *vectors, size_t vectors_len);
+
+/* The same without the posteriors. */
+uint8_t hazgunek_decode(size_t n, size_t m, size_t edges, size_t rank, const uint16_t *var, size_t var_len,
+                        const uint8_t *coef, size_t coef_len, const uint16_t *row, size_t row_len,
+                        const uint16_t *start, size_t start_len, const uint16_t *col, size_t col_len,
+                        const uint16_t *order, size_t order_len, const uint16_t *parity, size_t parity_len,
+                        const uint16_t *info, size_t info_len, const uint8_t *a, size_t a_len,
+                        const float *metrics, size_t metrics_len, uint32_t known, uint32_t limit, uint32_t *rounds,
+                        uint8_t *word, size_t word_len,
+                        uint8_t *h, size_t h_len, uint16_t *pivots, size_t pivots_len, float *vectors, size_t vectors_len);
+
 #ifdef __cplusplus
 }
 #endif

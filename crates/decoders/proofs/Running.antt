@@ -4,12 +4,10 @@ use Prim.Native.Nat.{ℕ, _≤_}
 use mathlib.Core.Path.{_≡_, sym, ap, subst, _∙_}
 use mathlib.Core.Logic.{_⊎_, inl, inr}
 use mathlib.Core.List.{List, _++_}
-use native.Mathlib.Omega.{arith}
 use lib.Ieee.{Float}
 use lib.ListN.{length, take}
 use lib.Seq.{take-at}
 use Rattle.lists.specs.Entry.{nth}
-use Rattle.vectors.specs.Vector.{Vector}
 use Rattle.rounds.specs.declared.rounds.Ended.{Ended}
 use Rattle.rounds.specs.Tanner.{Tanner}
 use Rattle.rounds.specs.Round.{State}

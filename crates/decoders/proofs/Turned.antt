@@ -7,7 +7,7 @@ use mathlib.Core.Bool.{Bool, true, false, not, _&&_, and-false}
 use mathlib.Core.List.{List, [], _∷_}
 use native.Mathlib.Omega.{arith}
 use borrow.Author.Tests.{le-leb, lt-leb, not-true}
-use lib.Dec.{eqb, leb, ltb}
+use lib.Dec.{eqb, ltb}
 use lib.Ieee.{Float}
 use lib.ListN.{length, replicate, length-replicate}
 use Rattle.lists.specs.Choice.{pick}

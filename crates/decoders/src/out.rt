@@ -1,6 +1,6 @@
 // What a decoding leaves in its output parts.
 ghost use mathlib.Core.Path.{_≡_};
-ghost use Prim.Native.Nat.{ℕ, _+_, _*_, _≤_};
+ghost use Prim.Native.Nat.{_+_, _*_, _≤_};
 ghost use lib.ListN.{length, take, replicate};
 ghost use Rattle.lists.specs.Chain.{chain};
 ghost use Rattle.lists.specs.Choice.{pick};

@@ -2,7 +2,7 @@
 -- Assumes nothing.
 use Prim.Native.Nat.{ℕ, _+_, _-_, _<_, _≤_}
 use mathlib.Core.Path.{_≡_, sym, ap, _∙_}
-use mathlib.Core.Logic.{_⊎_, _≢_, inl, inr, ⊎-elim}
+use mathlib.Core.Logic.{_⊎_, _≢_, inl, inr}
 use mathlib.Core.List.{List}
 use native.Mathlib.Omega.{arith}
 use lib.Ieee.{Float}
@@ -13,11 +13,11 @@ use Rattle.lists.proofs.Among.{among-or-not, true-among, false-among}
 use Rattle.lists.proofs.Choice.{pick-true, pick-false}
 use Rattle.lists.proofs.Values.{values-length, values-at}
 use Rattle.vectors.specs.Float32.{zero32}
-use Rattle.vectors.specs.Vector.{Vector, vector}
+use Rattle.vectors.specs.Vector.{vector}
 use Rattle.vectors.specs.Channel.{channel}
 use Rattle.vectors.specs.KnownZero.{knownZero}
 use Rattle.rounds.specs.Begin.{pastKnown, channels}
-use Rattle.rounds.specs.Work.{size, toChecks, posts, Wrote, Begun, Ends}
+use Rattle.rounds.specs.Work.{size, Wrote, Begun, Ends}
 
 module _ (n edges k known : ℕ) (var info : List ℕ) (metrics : List Float) (small : n ≤ 256) (y : Ends n edges var) (few : known ≤ k) (w₀ w₁ w₂ w₃ w₄ : List Float)
     (long : length w₀ ≡ size) (a : Wrote n (λ v. v) (λ v. channel (vector metrics v)) w₀ w₁)

@@ -1,21 +1,20 @@
 -- A round from its three steps: the messages from checks, the posteriors with their decisions, and the messages to checks.
 -- Assumes nothing.
-use Prim.Native.Nat.{ℕ, _+_, _<_, _≤_}
-use mathlib.Core.Path.{_≡_, sym, ap, _∙_}
+use Prim.Native.Nat.{ℕ, _+_, _<_}
+use mathlib.Core.Path.{_≡_, ap, _∙_}
 use mathlib.Core.List.{List}
 use native.Mathlib.Omega.{arith}
 use lib.Ieee.{Float}
-use lib.ListN.{length}
 use Rattle.lists.specs.Entry.{nth}
 use Rattle.lists.specs.Values.{values}
 use Rattle.lists.proofs.Values.{values-ext}
-use Rattle.vectors.specs.Vector.{Vector, vector}
+use Rattle.vectors.specs.Vector.{vector}
 use Rattle.vectors.specs.Decision.{decision}
 use Rattle.rounds.specs.Tanner.{Tanner}
 use Rattle.rounds.specs.VariableStep.{posterior, toCheck}
 use Rattle.rounds.specs.Round.{State, answers, posteriors, round}
 use Rattle.rounds.specs.Checked.{AllMessages}
-use Rattle.rounds.specs.Work.{toChecks, fromChecks, posts, Wrote, Holds, Rounded, Ready}
+use Rattle.rounds.specs.Work.{toChecks, fromChecks, Wrote, Holds, Rounded, Ready}
 use Rattle.rounds.proofs.Alike.{fromCheck-ext, posterior-ext, toCheck-ext}
 
 module _ (t : Tanner) (y : Ready t) (s : State) (w₀ w₁ w₂ w₃ : List Float) (hard : List ℕ) (z : Holds t s w₀) (a : AllMessages (t .m) (t .coef) (t .row) w₀ w₁)

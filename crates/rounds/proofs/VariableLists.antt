@@ -13,7 +13,7 @@ use Rattle.vectors.specs.Normalized.{normalized}
 use Rattle.rounds.specs.Tanner.{degreeOf, placeOf}
 use Rattle.rounds.specs.VariableStep.{gathered, gatheredWithout, posterior, toCheck}
 use Rattle.rounds.specs.Listed.{Listed}
-use Rattle.rounds.specs.Work.{size, fromChecks, Wrote, Columns}
+use Rattle.rounds.specs.Work.{size, fromChecks, Columns}
 use Rattle.rounds.proofs.Alike.{posterior-ext, toCheck-ext}
 
 module _ (n : ℕ) (start col : List ℕ) (k : Columns n start col) (w : List Float) (v : ℕ) (h : v < n) where

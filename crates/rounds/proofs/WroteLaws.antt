@@ -2,7 +2,7 @@
 -- Assumes nothing.
 use Prim.Native.Nat.{ℕ, _+_, _*_, _<_, _≤_}
 use mathlib.Core.Path.{_≡_, refl, sym, ap, subst, _∙_}
-use mathlib.Core.Logic.{_≢_, _⊎_, inl, inr, ⊎-elim}
+use mathlib.Core.Logic.{_≢_, _⊎_, inl, inr}
 use mathlib.Core.List.{List}
 use native.Mathlib.Nat.{not-suc-le-zero}
 use native.Mathlib.Omega.{arith}
@@ -34,17 +34,17 @@ module _ (place : ℕ → ℕ) (f : ℕ → Vector) (w₀ : List Float) where
         go (inl q) = ap (λ (i : ℕ). vector (stored w (place k) p) (place i)) q ∙ stored-same w (place k) p l fit ∙ e ∙ ap f (sym q)
         go (inr q) = old (omega arith) (same-or-not (place j) (place k))
 
-    pub wrote-on : Wrote (k + 1) place f w₀ (stored w (place k) p)
-    wrote-on = record {
+    wrote-stored : Wrote (k + 1) place f w₀ (stored w (place k) p)
+    wrote-stored = record {
       long = stored-length w (place k) p l fit ∙ a .long;
       here = here-on;
       else = λ i h. stored-other w (place k) i p l fit (h k (omega arith)) ∙ a .else i (λ j b. h j (omega arith));
     }
 
-  -- the same of what a store leaves, by the value that it should store
-  pub wrote-by : (k : ℕ) (w w′ : List Float) (p : Vector) → Wrote k place f w₀ w → w′ ≡ stored w (place k) p → p ≡ f k → length (f k) ≡ 32 → place k * 32 + 32 ≤ length w₀
+  -- the same of what a store leaves
+  pub wrote-on : (k : ℕ) (w w′ : List Float) (p : Vector) → Wrote k place f w₀ w → w′ ≡ stored w (place k) p → p ≡ f k → length (f k) ≡ 32 → place k * 32 + 32 ≤ length w₀
       → ((j : ℕ) → j < k → place j ≡ place k → f j ≡ f k) → Wrote (k + 1) place f w₀ w′
-  wrote-by k w w′ p a s e l fits same = subst (Wrote (k + 1) place f w₀) (sym s) (wrote-on k w a p (ap length e ∙ l) e fits same)
+  wrote-on k w w′ p a s e l fits same = subst (Wrote (k + 1) place f w₀) (sym s) (wrote-stored k w a p (ap length e ∙ l) e fits same)
 
   pub wrote-end : (n k : ℕ) (w : List Float) → k ≡ n → Wrote k place f w₀ w → Wrote n place f w₀ w
   wrote-end n k w e a = subst (λ (i : ℕ). Wrote i place f w₀ w) e a

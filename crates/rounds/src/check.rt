@@ -1,14 +1,11 @@
 // The check step. A check's messages are worked out where they stand: first the product of the inputs before each, then times that of the inputs after it.
 ghost use mathlib.Core.Path.{_≡_};
-ghost use Prim.Native.Nat.{ℕ, _+_, _-_, _<_, _≤_};
+ghost use Prim.Native.Nat.{_+_, _-_, _<_, _≤_};
 ghost use lib.ListN.{length};
-ghost use Rattle.lists.specs.Entry.{nth};
-ghost use Rattle.vectors.specs.Vector.{vector, product};
 ghost use Rattle.vectors.specs.Products.{Products};
 ghost use Rattle.rounds.specs.CheckStep.{input, productOf, outgoing};
 ghost use Rattle.rounds.specs.Checked.{Checked, Messages, messageIn};
-ghost use Rattle.rounds.specs.Tanner.{Tanner};
-ghost use Rattle.rounds.specs.Work.{size, toChecks, fromChecks, inputs, Wrote};
+ghost use Rattle.rounds.specs.Work.{size, toChecks, inputs, Wrote};
 use crate::rows::FROM_CHECKS;
 use crate::rows::INPUTS;
 use crate::rows::TO_CHECKS;

@@ -1,6 +1,6 @@
 // A round: all checks, then all variables' posteriors and decisions, then all messages to checks.
 ghost use mathlib.Core.Path.{_≡_};
-ghost use Prim.Native.Nat.{ℕ, _+_, _<_, _≤_};
+ghost use Prim.Native.Nat.{_+_};
 ghost use lib.ListN.{length};
 ghost use Rattle.lists.specs.Entry.{nth};
 ghost use Rattle.lists.specs.Values.{values};

@@ -1,6 +1,6 @@
 // Rounds from a state on.
 ghost use mathlib.Core.Path.{_≡_};
-ghost use Prim.Native.Nat.{ℕ, _<_};
+ghost use Prim.Native.Nat.{_<_};
 ghost use lib.ListN.{length};
 ghost use Rattle.rounds.specs.Tanner.{lentGraph};
 ghost use Rattle.rounds.specs.Round.{State};

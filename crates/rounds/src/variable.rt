@@ -1,10 +1,9 @@
 // The variable step.
 ghost use mathlib.Core.Path.{_≡_};
-ghost use Prim.Native.Nat.{ℕ, _+_, _-_, _<_, _≤_};
-ghost use lib.ListN.{length};
+ghost use Prim.Native.Nat.{_+_, _-_};
 ghost use Rattle.lists.specs.Entry.{nth};
 ghost use Rattle.vectors.specs.Vector.{vector};
-ghost use Rattle.rounds.specs.Work.{size, fromChecks};
+ghost use Rattle.rounds.specs.Work.{fromChecks};
 ghost use Rattle.rounds.specs.VariableStep.{gathered, gatheredWithout};
 ghost use Rattle.rounds.specs.Listed.{Listed};
 use crate::rows::FROM_CHECKS;

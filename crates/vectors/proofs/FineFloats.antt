@@ -5,9 +5,7 @@ use mathlib.Core.Path.{_≡_, refl, subst}
 use mathlib.Core.Logic.{⊎-elim}
 use mathlib.Core.Bool.{Bool, true, false, cond, _&&_, _||_}
 use native.Mathlib.Omega.{arith}
-use native.Mathlib.Nat.{add-comm, mul-comm, mul-assoc, mul-left-comm, mul-right-comm, mul-one, one-mul, mul-pos}
-use native.Mathlib.Nat.{eq-or-lt-of-le, le-of-lt, le-of-eq, lt-of-le-of-lt, lt-of-not-le, le-of-suc-le-suc, not-suc-le-zero}
-use native.Mathlib.Nat.{mul-le-mul, mul-le-mul-left, mul-le-mul-right, mul-lt-mul-of-pos-right, lt-of-mul-lt-mul-right}
+use native.Mathlib.Nat.{add-comm, mul-comm, mul-assoc, mul-left-comm, mul-right-comm, mul-one, one-mul, mul-pos, eq-or-lt-of-le, le-of-lt, le-of-eq, lt-of-le-of-lt, lt-of-not-le, le-of-suc-le-suc, not-suc-le-zero, mul-le-mul, mul-le-mul-left, mul-le-mul-right, mul-lt-mul-of-pos-right, lt-of-mul-lt-mul-right}
 use lib.Dec.{T, eqb, eqb→eq, eqb·suc-zero, ltb, ltb→lt}
 use lib.IntN.{ℤ}
 use lib.Ieee.{Float, nan, inf, fin, binary32, up, down, units, odd, round, add, mul, div, lt, le, ofBits, low}

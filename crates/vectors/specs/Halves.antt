@@ -1,6 +1,6 @@
 -- One level of the transform as the code has it: sums of neighbours to the lower half, differences to the upper. Ours; only a contract of a private function cites it.
 -- Assumes nothing.
-use Prim.Native.Nat.{ℕ, _+_, _*_}
+use Prim.Native.Nat.{_+_, _*_}
 use lib.Ieee.{binary32, add, sub}
 use lib.ListN.{set}
 use Rattle.lists.specs.Iter.{iter}

@@ -1,6 +1,5 @@
 -- `decoders::out::finish` meets its contract.
 -- Assumes nothing.
-use mathlib.Core.Path.{_≡_, refl, sym, ap, _∙_}
 use borrow.Author.Needs.{needs}
 use Rattle.lists.specs.Choice.{pick}
 use Rattle.decoders.proofs.out.finish.Statement.{statement}

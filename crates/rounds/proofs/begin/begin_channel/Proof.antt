@@ -6,6 +6,7 @@ use native.Mathlib.Omega.{arith}
 use borrow.Author.Needs.{needs}
 use Rattle.vectors.specs.Vector.{vector}
 use Rattle.vectors.specs.Channel.{channel}
+use Rattle.vectors.proofs.Lengths.{channel-length}
 use Rattle.rounds.specs.Work.{Wrote}
 use Rattle.rounds.proofs.WroteLaws.{wrote-start, wrote-on, wrote-end}
 use Rattle.rounds.proofs.begin.begin_channel.Statement.{statement}
@@ -26,6 +27,6 @@ begin-channel-spec =
     (λ c.
     let l = c .before .before .before .before .before .before .before .before .loop in
     let p = c .before .before .before .before .before .channel .ensures ∙ ap channel (c .before .before .before .before .before .before .load .ensures) in
-    (omega arith, rw (c .before .before .store .ensures) (wrote-on _ _ _ (l .v) (l .w) (l .inv .1) _ (omega arith) p (omega arith) (λ j h q. absurd (omega arith)))))
+    (omega arith, wrote-on _ _ _ (l .v) (l .w) _ _ (l .inv .1) (c .before .before .store .ensures) p (channel-length _) (omega arith) (λ j h q. absurd (omega arith))))
     (λ c. c .before .loop .inv .1 .long)
     (λ c. wrote-end _ _ _ _ _ _ (omega arith) (c .before .loop .inv .1)))

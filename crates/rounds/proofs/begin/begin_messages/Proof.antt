@@ -7,6 +7,7 @@ use borrow.Author.Needs.{needs}
 use denote.Ref.{now}
 use Rattle.lists.specs.Entry.{nth}
 use Rattle.vectors.specs.Vector.{vector}
+use Rattle.vectors.proofs.Stored.{vector-length}
 use Rattle.rounds.specs.Work.{Wrote}
 use Rattle.rounds.proofs.WroteLaws.{wrote-start, wrote-on, wrote-end}
 use Rattle.rounds.proofs.begin.begin_messages.Statement.{statement}
@@ -40,6 +41,6 @@ begin-messages-spec =
     let ends = s .pre .1 in
     let below = ends .vars (l .e) (i .loop-test .taken) in
     let read = c .before .before .before .before .before .load .ensures ∙ l .inv .1 .else (nth (now (s .args .var)) (l .e)) (λ j h q. omega (arith, below)) in
-    (omega arith, rw (c .before .before .store .ensures) (wrote-on _ _ _ (l .e) (l .w) (l .inv .1) _ (omega arith) read (omega (arith, ends .few)) (λ j h q. absurd (omega arith)))))
+    (omega arith, wrote-on _ _ _ (l .e) (l .w) _ _ (l .inv .1) (c .before .before .store .ensures) read (vector-length _ _) (omega (arith, ends .few)) (λ j h q. absurd (omega arith))))
     (λ c. c .before .loop .inv .1 .long)
     (λ c. wrote-end _ _ _ _ _ _ (omega arith) (c .before .loop .inv .1)))

@@ -23,6 +23,6 @@ begin-posteriors-spec =
     (λ c. omega arith)
     (λ c.
     let l = c .before .before .before .before .before .before .loop in
-    (omega arith, rw (c .before .before .store .ensures) (wrote-on _ _ _ (l .v) (l .w) (l .inv .1) _ (length-replicate 32 zero32) refl (omega arith) (λ j h q. refl))))
+    (omega arith, wrote-on _ _ _ (l .v) (l .w) _ _ (l .inv .1) (c .before .before .store .ensures) refl (length-replicate 32 zero32) (omega arith) (λ j h q. refl)))
     (λ c. c .before .loop .inv .1 .long)
     (λ c. wrote-end _ _ _ _ _ _ (omega arith) (c .before .loop .inv .1)))

@@ -1,12 +1,13 @@
 -- `rounds::begin::begin_zeros` meets its contract. The invariant: the positions from number `known` to t - 1 are known zeros.
 -- Assumes nothing.
-use Prim.Native.Nat.{_+_, _-_, _<_, _≤_}
-use mathlib.Core.Path.{_≡_, refl}
+use Prim.Native.Nat.{ℕ, _+_, _-_, _<_, _≤_}
+use mathlib.Core.Path.{_≡_, refl, sym, ap, _∙_}
 use native.Mathlib.Omega.{arith}
 use borrow.Author.Needs.{needs}
 use denote.Ref.{now}
 use Rattle.lists.specs.Entry.{nth}
 use Rattle.vectors.specs.KnownZero.{knownZero}
+use Rattle.vectors.specs.Vector.{stored}
 use Rattle.vectors.proofs.KnownZero.{knownZero-length}
 use Rattle.rounds.specs.Work.{Wrote}
 use Rattle.rounds.proofs.WroteLaws.{wrote-start, wrote-on, wrote-end}
@@ -27,8 +28,9 @@ loop-again c =
     let i = l .t - s .args .known in
     let number : s .args .known + i ≡ l .t = omega arith in
     let below : nth (now (s .args .info)) (s .args .known + i) < 256 = s .pre .1 (s .args .known + i) (omega arith) in
-    let on = wrote-on (λ t. nth (now (s .args .info)) (s .args .known + t)) (λ _. knownZero) _ i (l .w) (l .inv .2) knownZero knownZero-length refl (omega arith) (λ j h q. refl) in
-    (omega arith, omega arith, rw (c .before .before .store .ensures) (wrote-end _ _ _ _ (i + 1) _ (omega arith) (rw number at on)))
+    let put = c .before .before .store .ensures ∙ ap (λ (t : ℕ). stored (l .w) (nth (now (s .args .info)) t) knownZero) (sym number) in
+    let on = wrote-on (λ t. nth (now (s .args .info)) (s .args .known + t)) (λ _. knownZero) _ i (l .w) _ knownZero (l .inv .2) put refl knownZero-length (omega arith) (λ j h q. refl) in
+    (omega arith, omega arith, wrote-end _ _ _ _ (i + 1) _ (omega arith) on)
 
 pub begin-zeros-spec : {M : Type 1} → statement M
 begin-zeros-spec =

@@ -1,7 +1,6 @@
 -- `rounds::check::check` meets its contract.
 -- Assumes nothing.
 use mathlib.Core.Path.{_∙_}
-use native.Mathlib.Omega.{arith}
 use borrow.Author.Needs.{needs}
 use Rattle.rounds.proofs.CheckMessages.{messages-made}
 use Rattle.rounds.proofs.check.check.Statement.{statement}

@@ -13,7 +13,7 @@ use Rattle.rounds.specs.Checked.{messageIn}
 use Rattle.rounds.specs.Work.{fromChecks, inputs, Wrote}
 use Rattle.rounds.proofs.Alike.{productOf-start, productOf-on}
 use Rattle.rounds.proofs.Lengths.{outgoing-length}
-use Rattle.rounds.proofs.WroteLaws.{wrote-start, wrote-by, wrote-end}
+use Rattle.rounds.proofs.WroteLaws.{wrote-start, wrote-on, wrote-end}
 use Rattle.rounds.proofs.check.multiply_after.Statement.{statement}
 use Rattle.rounds.proofs.check.multiply_after.Tie as tie
 
@@ -41,7 +41,7 @@ loop-again c =
     let others = b .multiply .ensures ∙ ap₂ product old (l .inv .2) in
     let made = c .before .before .before .before .before .before .before .before .before .message .ensures ∙ ap (outgoing (nth (now (s .args .coef)) e)) others in
     let w =
-    wrote-by (λ j. 768 + (s .args .lo + (s .args .d - 1 - j))) (messageIn (now (s .args .coef)) (s .args .lo) (s .args .d) given) given (l .j) (l .w) _ _ (l .inv .3)
+    wrote-on (λ j. 768 + (s .args .lo + (s .args .d - 1 - j))) (messageIn (now (s .args .coef)) (s .args .lo) (s .args .d) given) given (l .j) (l .w) _ _ (l .inv .3)
     (c .before .before .before .before .before .before .store .ensures) made
     (outgoing-length (nth (now (s .args .coef)) e) (product (fromChecks given e) (productOf (l .j) f))) (omega (arith, q .end, q .long)) (λ j h r. absurd (omega arith)) in
     let read = c .before .before .load2 .ensures ∙ w .else (1280 + (s .args .d - 1 - l .j)) (λ j h r. omega (arith, q .end)) in

@@ -11,7 +11,7 @@ use Rattle.rounds.specs.CheckStep.{productOf}
 use Rattle.rounds.specs.Work.{inputs, Wrote}
 use Rattle.rounds.proofs.Alike.{productOf-start, productOf-on}
 use Rattle.rounds.proofs.Lengths.{productOf-length}
-use Rattle.rounds.proofs.WroteLaws.{wrote-start, wrote-by, wrote-end}
+use Rattle.rounds.proofs.WroteLaws.{wrote-start, wrote-on, wrote-end}
 use Rattle.rounds.proofs.check.multiply_before.Statement.{statement}
 use Rattle.rounds.proofs.check.multiply_before.Tie as tie
 
@@ -32,7 +32,7 @@ loop-again c =
     let l = i .before .loop in
     let f : ℕ → Vector = inputs (now (s .args .w)) in
     let w =
-    wrote-by (λ j. 768 + (s .args .lo + j)) (λ j. productOf j f) (now (s .args .w)) (l .j) (l .w) _ _ (l .inv .3) (c .before .before .before .before .before .before .store .ensures) (l .inv .2)
+    wrote-on (λ j. 768 + (s .args .lo + j)) (λ j. productOf j f) (now (s .args .w)) (l .j) (l .w) _ _ (l .inv .3) (c .before .before .before .before .before .before .store .ensures) (l .inv .2)
     (productOf-length (l .j) f) (omega (arith, s .pre .0, s .pre .2)) (λ j h e. absurd (omega arith)) in
     let read = c .before .before .load .ensures ∙ w .else _ (λ j h e. omega (arith, s .pre .0)) in
     (omega arith, w .long, c .multiply .ensures ∙ productOf-on (l .j) f _ _ (l .inv .2) read, w)

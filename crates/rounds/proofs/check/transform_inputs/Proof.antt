@@ -12,7 +12,7 @@ use Rattle.vectors.specs.Wht.{wht}
 use Rattle.rounds.specs.CheckStep.{input}
 use Rattle.rounds.specs.Work.{toChecks, Wrote}
 use Rattle.rounds.proofs.Lengths.{input-length}
-use Rattle.rounds.proofs.WroteLaws.{wrote-start, wrote-by, wrote-end}
+use Rattle.rounds.proofs.WroteLaws.{wrote-start, wrote-on, wrote-end}
 use Rattle.rounds.proofs.check.transform_inputs.Statement.{statement}
 use Rattle.rounds.proofs.check.transform_inputs.Tie as tie
 
@@ -38,7 +38,7 @@ loop-again c =
     let q = s .pre .1 in
     let read = c .before .before .before .before .before .before .before .before .load .ensures ∙ l .inv .2 .else _ (λ j h e. omega (arith, q .end)) in
     let made = c .before .before .before .before .before .wht .ensures ∙ ap wht (c .before .before .before .before .before .before .permute .ensures ∙ ap (permuted _) read) in
-    let w = wrote-by _ (values s) _ (l .j) (l .w) _ _ (l .inv .2) (put .ensures) made (input-length (now (s .args .coef)) (toChecks (now (s .args .w))) (s .args .lo + l .j)) (omega (arith, q .few, q .long)) (λ j h e. absurd (omega arith)) in
+    let w = wrote-on _ (values s) _ (l .j) (l .w) _ _ (l .inv .2) (put .ensures) made (input-length (now (s .args .coef)) (toChecks (now (s .args .w))) (s .args .lo + l .j)) (omega (arith, q .few, q .long)) (λ j h e. absurd (omega arith)) in
     (omega arith, w .long, w)
 
 pub transform-inputs-spec : {M : Type 1} → statement M

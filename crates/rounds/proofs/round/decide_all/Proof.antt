@@ -1,7 +1,7 @@
 -- `rounds::round::decide_all` meets its contract. The invariant: the first v posteriors are written, and the decisions on them.
 -- Assumes nothing.
 use Prim.Native.Nat.{ℕ, _+_, _-_, _≤_}
-use mathlib.Core.Path.{_≡_, refl, sym, ap, _∙_}
+use mathlib.Core.Path.{_≡_, sym, ap, _∙_}
 use native.Mathlib.Omega.{arith}
 use borrow.Author.Needs.{needs}
 use denote.Ref.{now}
@@ -15,7 +15,7 @@ use Rattle.rounds.specs.VariableStep.{posterior}
 use Rattle.rounds.specs.Work.{fromChecks, Wrote}
 use Rattle.rounds.proofs.Lengths.{posterior-length}
 use Rattle.rounds.proofs.VariableLists.{listed, posterior-made}
-use Rattle.rounds.proofs.WroteLaws.{wrote-start, wrote-by, wrote-end}
+use Rattle.rounds.proofs.WroteLaws.{wrote-start, wrote-on, wrote-end}
 use Rattle.rounds.proofs.round.decide_all.Statement.{statement}
 use Rattle.rounds.proofs.round.decide_all.Tie as tie
 
@@ -45,7 +45,7 @@ loop-again c =
     (λ k h. a .else k (λ j b e. omega arith)) (λ k h. a .else (768 + k) (λ j b e. omega arith)) _ _
     (c .before .before .before .before .before .before .before .normalize .ensures) (c .before .before .before .before .before .before .before .before .gather .ensures) in
     let w =
-    wrote-by (λ v. 1312 + v) (posts s) (now (s .args .w)) (l .v) (l .w) _ _ a (c .before .before .before .before .store .ensures) post
+    wrote-on (λ v. 1312 + v) (posts s) (now (s .args .w)) (l .v) (l .w) _ _ a (c .before .before .before .before .store .ensures) post
     (posterior-length _ _ _ _ _) (omega (arith, s .pre .0 .small, s .pre .1)) (λ j h e. absurd (omega arith)) in (
       omega arith,
       w .long,

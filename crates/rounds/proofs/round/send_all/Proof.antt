@@ -12,7 +12,7 @@ use Rattle.rounds.specs.VariableStep.{toCheck}
 use Rattle.rounds.specs.Work.{fromChecks, Wrote}
 use Rattle.rounds.proofs.Lengths.{toCheck-length}
 use Rattle.rounds.proofs.VariableLists.{listed, toCheck-made}
-use Rattle.rounds.proofs.WroteLaws.{wrote-start, wrote-by, wrote-end}
+use Rattle.rounds.proofs.WroteLaws.{wrote-start, wrote-on, wrote-end}
 use Rattle.rounds.proofs.round.send_all.Statement.{statement}
 use Rattle.rounds.proofs.round.send_all.Tie as tie
 
@@ -48,7 +48,7 @@ loop-again c =
     (λ k h. a .else k (λ j b e. omega arith)) (λ k h. a .else (768 + k) (λ j b e. omega (arith, q .few))) _ _
     (c .before .before .before .before .before .normalize .ensures) (l .e) (c .before .before .before .before .before .before .gather-without .ensures) in
     let w =
-    wrote-by (λ e. 256 + e) (messages s) (now (s .args .w)) (l .e) (l .w) _ _ a (c .before .before .store .ensures) message
+    wrote-on (λ e. 256 + e) (messages s) (now (s .args .w)) (l .e) (l .w) _ _ a (c .before .before .store .ensures) message
     (toCheck-length _ _ _ _ _ _) (omega (arith, q .few, s .pre .2)) (λ j h e. absurd (omega arith)) in
     (omega arith, w .long, w)
 

@@ -1,6 +1,6 @@
 -- `rounds::rounds::go_on` meets its contract. The invariant: r rounds are made, and the first satisfied one is still ahead.
 -- Assumes nothing.
-use Prim.Native.Nat.{ℕ, _+_, _-_, _≤_}
+use Prim.Native.Nat.{ℕ, _-_, _≤_}
 use mathlib.Core.Path.{_≡_, sym, ap, subst, _∙_}
 use mathlib.Core.Bool.{Bool}
 use mathlib.Core.List.{List}
