@@ -46,7 +46,7 @@ pub extern "C" fn hazgunek_decode_soft(
         (now (metrics .entry)) known limit (now (word .entry)) (now (posteriors .entry)) (lentMatrix (h .entry) (pivots .entry)) (now (vectors .entry)))) ⌝ }
 {
     let code = Code { n, m, edges, rank };
-    let decoding = decoders::decode_soft(
+    let soft = decoders::decode_soft(
         code,
         var,
         coef,
@@ -66,8 +66,8 @@ pub extern "C" fn hazgunek_decode_soft(
         pivots,
         vectors,
     );
-    *rounds = decoding.rounds;
-    let answer = decoding.answer;
+    *rounds = soft.rounds;
+    let answer = soft.answer;
     match answer {
         Answer::Done => 0,
         Answer::Refused(number) => number,
@@ -109,7 +109,7 @@ pub extern "C" fn hazgunek_decode(
         (now (metrics .entry)) known limit (now (word .entry)) (lentMatrix (h .entry) (pivots .entry)) (now (vectors .entry)))) ⌝ }
 {
     let code = Code { n, m, edges, rank };
-    let decoding = decoders::decode(
+    let hard = decoders::decode(
         code,
         var,
         coef,
@@ -128,8 +128,8 @@ pub extern "C" fn hazgunek_decode(
         pivots,
         vectors,
     );
-    *rounds = decoding.rounds;
-    let answer = decoding.answer;
+    *rounds = hard.rounds;
+    let answer = hard.answer;
     match answer {
         Answer::Done => 0,
         Answer::Refused(number) => number,

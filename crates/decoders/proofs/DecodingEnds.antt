@@ -29,13 +29,13 @@ use Rattle.rounds.specs.Work as Work
 use Rattle.rounds.specs.GoneOn.{GoneOn}
 use Rattle.decoders.specs.declared.Decoding.{Decoding}
 use Rattle.decoders.specs.BeliefPropagation as Bp
-use Rattle.decoders.specs.DecodeSoft.{DecodedSoft, decodeSoft}
+use Rattle.decoders.specs.DecodeSoft.{DecodedSoft, ownLengths, decodeSoft}
 use Rattle.decoders.proofs.Turned.{before-rounds}
 
 module _ (c : Code) (p : Parts) (metrics : List Float) (known limit : ℕ) (word : List ℕ) (posteriors : List Float) (work : MatrixWork) (vectors : List Float) where
   -- whether a part of the call's own has a wrong length
   abbrev pub softRest : Bool
-  softRest = misfit ((length metrics, c .n * 32) ∷ (length word, c .n) ∷ (length posteriors, c .n * 32) ∷ (length vectors, Bp.vectorsLength) ∷ [])
+  softRest = misfit (ownLengths c metrics word posteriors vectors)
 
   abbrev early : List (Bool × ℕ)
   early = Bp.tests c p work softRest limit
@@ -120,5 +120,5 @@ module _ (c : Code) (p : Parts) (metrics : List Float) (known limit : ℕ) (word
 
 module _ (c : Code) (metrics : List Float) (word : List ℕ) (vectors : List Float) where
   pub rest-without : misfit ((length metrics, c .n * 32) ∷ (length word, c .n) ∷ (length vectors, Bp.vectorsLength) ∷ [])
-      ≡ misfit ((length metrics, c .n * 32) ∷ (length word, c .n) ∷ (length (replicate (c .n * 32) zero32), c .n * 32) ∷ (length vectors, Bp.vectorsLength) ∷ [])
+      ≡ misfit (ownLengths c metrics word (replicate (c .n * 32) zero32) vectors)
   rest-without = rw (eq-eqb (length (replicate (c .n * 32) zero32)) (c .n * 32) (length-replicate (c .n * 32) zero32))

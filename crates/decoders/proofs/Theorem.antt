@@ -42,8 +42,8 @@ use Rattle.rounds.specs.Begin.{begin}
 use Rattle.rounds.specs.Rounds.{posteriorsAfter, decisions, satisfies, firstSatisfied}
 use Rattle.rounds.proofs.FineRounds.{channels-fine, posteriorsAfter-length, posteriorsAfter-fine}
 use Rattle.rounds.proofs.KnownRounds.{known-channel, known-decided, decisions-length, decisions-at, decisions-small}
-use Rattle.decoders.specs.BeliefPropagation.{start, first, rounds, wide, vectorsLength, tests, allTests}
-use Rattle.decoders.specs.DecodeSoft.{DecodedSoft, decodeSoft}
+use Rattle.decoders.specs.BeliefPropagation.{start, first, rounds, wide, tests, allTests}
+use Rattle.decoders.specs.DecodeSoft.{DecodedSoft, ownLengths, decodeSoft}
 
 -- whether an answer is a word, and its number otherwise
 abbrev isDone : Answer → Bool
@@ -84,12 +84,9 @@ module _ (c : Code) (p : Parts) (metrics : List Float) (known limit : ℕ) (word
   abbrev positions : List ℕ
   positions = informationOf (graphIn c p) (p .order)
 
-  -- the lengths of the call's own parts, and whether one is wrong
-  abbrev pub ownLengths : List (ℕ × ℕ)
-  ownLengths = (length metrics, c .n * 32) ∷ (length word, c .n) ∷ (length given, c .n * 32) ∷ (length vectors, vectorsLength) ∷ []
-
+  -- whether one of the call's own parts has a wrong length
   abbrev rest : Bool
-  rest = misfit ownLengths
+  rest = misfit (ownLengths c metrics word given vectors)
 
   -- the numbers 2 to 9 do not turn the call down
   abbrev pub ComesToRounds : Type 0
@@ -136,9 +133,9 @@ module _ (c : Code) (p : Parts) (metrics : List Float) (known limit : ℕ) (word
       (same-or-not (refusal a) 0)
 
   -- so does every call on a code that is not refused, with parts of the right lengths and, where a round may be made, no check of degree above 32
-  pub fitting-comes : NotRefused c p → Refusal.Alike (matrixLengths work) → Refusal.Alike ownLengths → (ltb 0 limit && wide (c .m) (p .row)) ≡ false → ComesToRounds
+  pub fitting-comes : NotRefused c p → Refusal.Alike (matrixLengths work) → Refusal.Alike (ownLengths c metrics word given vectors) → (ltb 0 limit && wide (c .m) (p .row)) ≡ false → ComesToRounds
   fitting-comes ok a b w =
-      let z = Refusal.fitting (matrixLengths work) rest a (Refusal.fitting ownLengths false b refl) in
+      let z = Refusal.fitting (matrixLengths work) rest a (Refusal.fitting (ownLengths c metrics word given vectors) false b refl) in
       Refusal.second (refusals c p work rest) ((ltb 0 limit && wide (c .m) (p .row), 9) ∷ []) tt
       (ap (λ (r : Bool). refusal ((tooLarge (c .n) (c .m), 2) ∷ (misfits (codeLengths p) r, 3) ∷ (malformed c p, 6) ∷ (misencoded c p, 7) ∷ [])) z ∙ ok)
       ∙ sym (Refusal.refusal-miss 9 [] refl w Refusal.refusal-none)

@@ -24,10 +24,14 @@ pub record DecodedSoft : Type 0 where
   pub work : MatrixWork
   pub vectors : List Float
 
+-- the call's own parts: each length beside the one that it should have
+abbrev pub ownLengths : Code → List Float → List ℕ → List Float → List Float → List (ℕ × ℕ)
+ownLengths c metrics word posteriors vectors =
+    (length metrics, c .n * 32) ∷ (length word, c .n) ∷ (length posteriors, c .n * 32) ∷ (length vectors, vectorsLength) ∷ []
+
 unfoldable pub decodeSoft : Code → Parts → List Float → ℕ → ℕ → List ℕ → List Float → MatrixWork → List Float → DecodedSoft
 decodeSoft c p metrics known limit word posteriors work vectors =
-    let rest = misfit ((length metrics, c .n * 32) ∷ (length word, c .n) ∷ (length posteriors, c .n * 32) ∷ (length vectors, vectorsLength) ∷ []) in
-    let k = refusal (allTests c p metrics known limit work rest) in
+    let k = refusal (allTests c p metrics known limit work (misfit (ownLengths c metrics word posteriors vectors))) in
     let r = rounds c p metrics known limit in
     let s = start c p metrics known in
     record {

@@ -4,7 +4,7 @@ use lib.Ieee.{Float, binary32, sub, lt}
 use Rattle.lists.specs.Choice.{pick}
 use Rattle.lists.specs.Iter.{iter}
 use Rattle.lists.specs.Values.{values}
-use Rattle.vectors.specs.Float32.{least32, lowest32}
+use Rattle.vectors.specs.Float32.{least32, minusSixty32}
 use Rattle.vectors.specs.Vector.{Vector, at}
 use Rattle.vectors.specs.Exp.{exp}
 use Rattle.vectors.specs.Normalized.{normalized}
@@ -15,7 +15,7 @@ greatest m = iter 32 (λ x a. pick (lt a (at m x)) (at m x) a) least32
 
 -- "after subtraction they count as −60", and so does what is below
 unfoldable pub likelihood : Float → Float → Float
-likelihood most l = let t = sub binary32 l most in exp (pick (lt lowest32 t) t lowest32)
+likelihood most l = let t = sub binary32 l most in exp (pick (lt minusSixty32 t) t minusSixty32)
 
 unfoldable pub channel : Vector → Vector
 channel m = normalized (values 32 (λ x. likelihood (greatest m) (at m x)))

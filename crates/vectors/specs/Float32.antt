@@ -24,5 +24,5 @@ abbrev pub least32 : Float
 least32 = neg greatest32
 
 -- -60
-abbrev pub lowest32 : Float
-lowest32 = neg (ofBits binary32 0x4270_0000)
+abbrev pub minusSixty32 : Float
+minusSixty32 = neg (ofBits binary32 0x4270_0000)
