@@ -4,7 +4,7 @@ ghost use Prim.Native.Nat.{_<_};
 use crate::print;
 
 // How many there are.
-pub const CALLS: usize = 14;
+pub const CALLS: usize = 16;
 
 pub enum Call {
     Mul,
@@ -14,6 +14,8 @@ pub enum Call {
     New,
     OnCode(Ask),
     WithPeeledInfo,
+    DecodeSoft,
+    Decode,
 }
 
 // The calls on a code that is lent.
@@ -59,6 +61,12 @@ pub fn call_named(word: &[u8]) -> Named {
     if check::same(word, b"with_peeled_info") {
         return Named::Is(Call::WithPeeledInfo);
     }
+    if check::same(word, b"decode_soft") {
+        return Named::Is(Call::DecodeSoft);
+    }
+    if check::same(word, b"decode") {
+        return Named::Is(Call::Decode);
+    }
     ask_named(word)
 }
 
@@ -99,6 +107,8 @@ pub fn print_name(call: Call) {
         Call::New => print::text(b"new"),
         Call::OnCode(ask) => print_name_of_ask(ask),
         Call::WithPeeledInfo => print::text(b"with_peeled_info"),
+        Call::DecodeSoft => print::text(b"decode_soft"),
+        Call::Decode => print::text(b"decode"),
     }
 }
 
@@ -131,6 +141,8 @@ pub fn print_answer(call: Call, place: u64) {
         Call::New => print_answer_of_new(place),
         Call::OnCode(ask) => print_answer_of_ask(ask, place),
         Call::WithPeeledInfo => print_answer_of_peeled(place),
+        Call::DecodeSoft => print_answer_of_decoding(place),
+        Call::Decode => print_answer_of_decoding(place),
     }
 }
 
@@ -154,6 +166,19 @@ fn print_answer_of_peeled(place: u64) {
         3..=6 => print_part_of_code(place + 3),
         7 => print::text(b", digest of the work part h"),
         _ => print::text(b", digest of the work part pivots"),
+    }
+}
+
+// A `decode` has no posteriors, and so no difference at place 4.
+fn print_answer_of_decoding(place: u64) {
+    match place {
+        1 => print::text(b", number"),
+        2 => print::text(b", count of rounds"),
+        3 => print::text(b", digest of word"),
+        4 => print::text(b", digest of posteriors"),
+        5 => print::text(b", digest of the work part h"),
+        6 => print::text(b", digest of the work part pivots"),
+        _ => print::text(b", digest of the work part vectors"),
     }
 }
 
@@ -209,7 +234,7 @@ fn print_part(ask: Ask) {
 
 // The call's place in a tally.
 pub fn index(call: Call) -> usize
-    ensures { λ r. ⌜ r < 14 ⌝ }
+    ensures { λ r. ⌜ r < 16 ⌝ }
 {
     match call {
         Call::Mul => 0,
@@ -219,11 +244,13 @@ pub fn index(call: Call) -> usize
         Call::New => 4,
         Call::OnCode(ask) => index_of_ask(ask),
         Call::WithPeeledInfo => 13,
+        Call::DecodeSoft => 14,
+        Call::Decode => 15,
     }
 }
 
 fn index_of_ask(ask: Ask) -> usize
-    ensures { λ r. ⌜ r < 14 ⌝ }
+    ensures { λ r. ⌜ r < 16 ⌝ }
 {
     match ask {
         Ask::Encode => 5,

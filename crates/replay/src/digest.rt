@@ -10,6 +10,14 @@ const ONES_65536: u64 = 29565;
 
 const ONES_256: u64 = 41082;
 
+// Of the 50,176 floats of `vectors`, where every entry is 0.0 and where every entry is 1.0.
+const ZEROS_50176: u64 = 18731;
+
+const ONES_50176: u64 = 47903;
+
+// The bits that stand for a NaN, whose own are not read. No other float has them.
+const NAN: u32 = 0x7FC0_0000;
+
 // Of a work part of 65,536 entries after a call that answers the number. Before it every entry is 1: 2 and 3 leave it so, the others make it 0.
 pub fn large_work(number: u64) -> u64 {
     if is_untouched(number) {
@@ -25,6 +33,15 @@ pub fn small_work(number: u64) -> u64 {
         ONES_256
     } else {
         ZEROS_256
+    }
+}
+
+// Of `vectors`.
+pub fn vectors(number: u64) -> u64 {
+    if is_untouched(number) {
+        ONES_50176
+    } else {
+        ZEROS_50176
     }
 }
 
@@ -68,4 +85,18 @@ pub fn of_usize(part: &[usize]) -> u64 {
         i += 1;
     }
     d
+}
+
+pub fn of_f32(part: &[f32]) -> u64 {
+    let mut d = 0;
+    let mut i = 0;
+    while i < part.len() {
+        d = digested(d, bits(part[i]) as u64);
+        i += 1;
+    }
+    d
+}
+
+fn bits(x: f32) -> u32 {
+    if x == x { f32::to_bits(x) } else { NAN }
 }

@@ -3,10 +3,12 @@ mod cases;
 mod code;
 mod compare;
 mod damage;
+mod decoding_calls;
 mod digest;
 mod field_calls;
 mod graph_calls;
 mod list;
+mod metrics;
 mod on_code;
 mod peeling_calls;
 mod preferences;
@@ -22,6 +24,7 @@ fn main() {
     run::replay(b"graph.txt");
     run::replay(b"words.txt");
     run::replay(b"peeling.txt");
+    run::replay(b"decoding.txt");
     // Wrong on purpose. What is printed of it shows that a wrong case would be seen in the others.
     run::replay(b"wrong.txt");
 }

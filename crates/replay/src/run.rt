@@ -4,6 +4,7 @@ use crate::cases::Ask;
 use crate::cases::Call;
 use crate::cases::Named;
 use crate::cases::Outcome;
+use crate::decoding_calls;
 use crate::field_calls;
 use crate::graph_calls;
 use crate::list;
@@ -76,9 +77,9 @@ fn misread(name: &[u8], line: u64, words: &[u8], t: Tally) -> Tally {
     t.with_misread()
 }
 
-// The numbers stand after the call's name. No call has more than 18, as `new` and a `draws` of 16 have.
+// The numbers stand after the call's name. No call has more than 19, as `decode_soft` and a `draws` of 17 have.
 fn replay_case(name: &[u8], line: u64, call: Call, words: &[u8], after: Cursor) -> Outcome {
-    let mut numbers = [0u64; 18];
+    let mut numbers = [0u64; 19];
     let read = list::read_numbers(words, after, &mut numbers);
     if !read.is_whole {
         return Outcome::Misread;
@@ -96,6 +97,8 @@ fn replay_call(name: &[u8], line: u64, call: Call, numbers: &[u64]) -> Outcome {
         Call::New => graph_calls::new(name, line, numbers),
         Call::OnCode(ask) => replay_ask(name, line, ask, numbers),
         Call::WithPeeledInfo => peeling_calls::with_peeled_info(name, line, numbers),
+        Call::DecodeSoft => decoding_calls::decode_soft(name, line, numbers),
+        Call::Decode => decoding_calls::decode(name, line, numbers),
     }
 }
 

@@ -67,6 +67,8 @@ pub fn print_tally(name: &[u8], t: Tally) {
     print_count(name, t, Call::OnCode(Ask::InfoPositions));
     print_count(name, t, Call::OnCode(Ask::PeelPicks));
     print_count(name, t, Call::WithPeeledInfo);
+    print_count(name, t, Call::DecodeSoft);
+    print_count(name, t, Call::Decode);
     if t.all == 0 {
         print::about(name, b": no case\n");
     }

@@ -257,7 +257,7 @@ fn word_of(b: Built, n: usize, l: &[u64]) -> Word
 }
 
 // Of the first `count` symbols.
-fn ask_of(b: Built, ask: Ask, n: usize, symbols: [u8; 257], count: usize) -> Asked
+pub fn ask_of(b: Built, ask: Ask, n: usize, symbols: [u8; 257], count: usize) -> Asked
     requires { ⌜ n ≤ 257 ⌝ }
     requires { ⌜ count ≤ 257 ⌝ }
 {

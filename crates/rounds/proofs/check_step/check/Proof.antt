@@ -1,10 +1,10 @@
--- `rounds::check::check` meets its contract.
+-- `rounds::check_step::check` meets its contract.
 -- Assumes nothing.
 use mathlib.Core.Path.{_∙_}
 use borrow.Author.Needs.{needs}
 use Rattle.rounds.proofs.CheckMessages.{messages-made}
-use Rattle.rounds.proofs.check.check.Statement.{statement}
-use Rattle.rounds.proofs.check.check.Tie as tie
+use Rattle.rounds.proofs.check_step.check.Statement.{statement}
+use Rattle.rounds.proofs.check_step.check.Tie as tie
 
 multiply-after-requires : tie.Need-multiply-after-requires
 multiply-after-requires c κs =

@@ -1,4 +1,4 @@
--- `rounds::variable::gather` meets its contract. The invariant: p is the product by the first j messages of the list.
+-- `rounds::variable_step::gather` meets its contract. The invariant: p is the product by the first j messages of the list.
 -- Assumes nothing.
 use Prim.Native.Nat.{ℕ, _+_, _-_, _≤_}
 use mathlib.Core.Path.{_≡_, ap, _∙_}
@@ -13,8 +13,8 @@ use Rattle.lists.proofs.Iter.{iter-start, iter-on, iter-end}
 use Rattle.vectors.specs.Vector.{Vector, vector, product}
 use Rattle.rounds.specs.Work.{fromChecks}
 use Rattle.rounds.specs.VariableStep.{gathered}
-use Rattle.rounds.proofs.variable.gather.Statement.{statement}
-use Rattle.rounds.proofs.variable.gather.Tie as tie
+use Rattle.rounds.proofs.variable_step.gather.Statement.{statement}
+use Rattle.rounds.proofs.variable_step.gather.Tie as tie
 
 abbrev turn : List ℕ → ℕ → List Float → ℕ → Vector → Vector
 turn col lo w j q = product q (fromChecks w (nth col (lo + j)))

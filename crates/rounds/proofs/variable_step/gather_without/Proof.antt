@@ -1,4 +1,4 @@
--- `rounds::variable::gather_without` meets its contract. The invariant: p is the product by the first j messages of the list, without the one at place e.
+-- `rounds::variable_step::gather_without` meets its contract. The invariant: p is the product by the first j messages of the list, without the one at place e.
 -- Assumes nothing.
 use Prim.Native.Nat.{ℕ, _+_, _-_, _≤_}
 use mathlib.Core.Path.{_≡_, sym, ap, _∙_}
@@ -17,8 +17,8 @@ use Rattle.lists.proofs.Iter.{iter-start, iter-on, iter-end}
 use Rattle.vectors.specs.Vector.{Vector, vector, product}
 use Rattle.rounds.specs.Work.{fromChecks}
 use Rattle.rounds.specs.VariableStep.{gatheredWithout}
-use Rattle.rounds.proofs.variable.gather_without.Statement.{statement}
-use Rattle.rounds.proofs.variable.gather_without.Tie as tie
+use Rattle.rounds.proofs.variable_step.gather_without.Statement.{statement}
+use Rattle.rounds.proofs.variable_step.gather_without.Tie as tie
 
 abbrev turn : ℕ → List ℕ → ℕ → List Float → ℕ → Vector → Vector
 turn e col lo w j q = pick (eqb (nth col (lo + j)) e) q (product q (fromChecks w (nth col (lo + j))))

@@ -1,4 +1,4 @@
--- `rounds::check::multiply_before` meets its contract. The invariant: the product of the first j inputs, and the products before the first j edges are written.
+-- `rounds::check_step::multiply_before` meets its contract. The invariant: the product of the first j inputs, and the products before the first j edges are written.
 -- Assumes nothing.
 use Prim.Native.Nat.{ℕ, _+_, _-_, _≤_}
 use mathlib.Core.Path.{_≡_, _∙_}
@@ -12,8 +12,8 @@ use Rattle.rounds.specs.Work.{inputs, Wrote}
 use Rattle.rounds.proofs.Alike.{productOf-start, productOf-on}
 use Rattle.rounds.proofs.Lengths.{productOf-length}
 use Rattle.rounds.proofs.WroteLaws.{wrote-start, wrote-on, wrote-end}
-use Rattle.rounds.proofs.check.multiply_before.Statement.{statement}
-use Rattle.rounds.proofs.check.multiply_before.Tie as tie
+use Rattle.rounds.proofs.check_step.multiply_before.Statement.{statement}
+use Rattle.rounds.proofs.check_step.multiply_before.Tie as tie
 
 abbrev Inv-loop : tie.InvT-loop
 Inv-loop lo d w₀ before₀ j₀ w before j =

@@ -1,12 +1,12 @@
--- `rounds::check::message` meets its contract.
+-- `rounds::check_step::message` meets its contract.
 -- Assumes nothing.
 use mathlib.Core.Path.{ap, _∙_}
 use borrow.Author.Needs.{needs}
 use Rattle.vectors.specs.Multiplied.{readBack}
 use Rattle.vectors.specs.Normalized.{normalized}
 use Rattle.rounds.specs.CheckStep.{outgoing}
-use Rattle.rounds.proofs.check.message.Statement.{statement}
-use Rattle.rounds.proofs.check.message.Tie as tie
+use Rattle.rounds.proofs.check_step.message.Statement.{statement}
+use Rattle.rounds.proofs.check_step.message.Tie as tie
 
 pub message-spec : {M : Type 1} → statement M
 unfolding outgoing

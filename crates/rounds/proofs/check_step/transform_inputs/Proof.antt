@@ -1,4 +1,4 @@
--- `rounds::check::transform_inputs` meets its contract. The invariant: the first j inputs are written.
+-- `rounds::check_step::transform_inputs` meets its contract. The invariant: the first j inputs are written.
 -- Assumes nothing.
 use Prim.Native.Nat.{ℕ, _+_, _-_, _≤_}
 use mathlib.Core.Path.{_≡_, ap, _∙_}
@@ -13,8 +13,8 @@ use Rattle.rounds.specs.CheckStep.{input}
 use Rattle.rounds.specs.Work.{toChecks, Wrote}
 use Rattle.rounds.proofs.Lengths.{input-length}
 use Rattle.rounds.proofs.WroteLaws.{wrote-start, wrote-on, wrote-end}
-use Rattle.rounds.proofs.check.transform_inputs.Statement.{statement}
-use Rattle.rounds.proofs.check.transform_inputs.Tie as tie
+use Rattle.rounds.proofs.check_step.transform_inputs.Statement.{statement}
+use Rattle.rounds.proofs.check_step.transform_inputs.Tie as tie
 
 abbrev Inv-loop : tie.InvT-loop
 Inv-loop table coef lo d w₀ j₀ w j = (j ≤ d) × (length w ≡ length w₀) × Wrote j (λ j. 1280 + j) (λ j. input coef (toChecks w₀) (lo + j)) w₀ w

@@ -1,4 +1,4 @@
--- `rounds::check::multiply_after` meets its contract. The invariant: the product of the last j inputs, and the messages to the last j edges are written.
+-- `rounds::check_step::multiply_after` meets its contract. The invariant: the product of the last j inputs, and the messages to the last j edges are written.
 -- Assumes nothing.
 use Prim.Native.Nat.{ℕ, _+_, _-_, _≤_}
 use mathlib.Core.Path.{_≡_, ap, ap₂, _∙_}
@@ -14,8 +14,8 @@ use Rattle.rounds.specs.Work.{fromChecks, inputs, Wrote}
 use Rattle.rounds.proofs.Alike.{productOf-start, productOf-on}
 use Rattle.rounds.proofs.Lengths.{outgoing-length}
 use Rattle.rounds.proofs.WroteLaws.{wrote-start, wrote-on, wrote-end}
-use Rattle.rounds.proofs.check.multiply_after.Statement.{statement}
-use Rattle.rounds.proofs.check.multiply_after.Tie as tie
+use Rattle.rounds.proofs.check_step.multiply_after.Statement.{statement}
+use Rattle.rounds.proofs.check_step.multiply_after.Tie as tie
 
 abbrev Inv-loop : tie.InvT-loop
 Inv-loop table coef lo d w₀ after₀ j₀ w after j =
