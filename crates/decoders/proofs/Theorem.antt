@@ -108,6 +108,9 @@ module _ (c : Code) (p : Parts) (metrics : List Float) (known limit : ℕ) (word
     pub none : d .answer .answer ≢ Done → (q : ℕ) → 1 ≤ q → q ≤ limit → satisfies t s q ≡ false
     -- either way the posteriors are finite and not negative
     pub finite : (v x : ℕ) → v < c .n → x < 32 → T (fine (at (d .posteriors) (v * 32 + x)))
+    -- and so they are in every round, in which a known zero is decided 0
+    pub rounds-finite : (r v : ℕ) → Fine (posteriorsAfter t s r v)
+    pub rounds-zeros : (r i : ℕ) → known ≤ i → i < length positions → nth (decisions t s r) (nth positions i) ≡ 0
 
   -- ---- the number
 
@@ -139,6 +142,11 @@ module _ (c : Code) (p : Parts) (metrics : List Float) (known limit : ℕ) (word
       Refusal.second (refusals c p work rest) ((ltb 0 limit && wide (c .m) (p .row), 9) ∷ []) tt
       (ap (λ (r : Bool). refusal ((tooLarge (c .n) (c .m), 2) ∷ (misfits (codeLengths p) r, 3) ∷ (malformed c p, 6) ∷ (misencoded c p, 7) ∷ [])) z ∙ ok)
       ∙ sym (Refusal.refusal-miss 9 [] refl w Refusal.refusal-none)
+
+  -- the posteriors of round r
+  every-fine : (r v : ℕ) → Fine (posteriorsAfter t s r v)
+  unfolding start begin
+  every-fine r v = posteriorsAfter-fine t s v (channels-fine positions metrics known v) r
 
   module _ (e : ComesToRounds) where
     number-is : number ≡ refusal ((ltb limit f, 10) ∷ [])
@@ -215,12 +223,8 @@ module _ (c : Code) (p : Parts) (metrics : List Float) (known limit : ℕ) (word
     unfolding decodeSoft
     posteriors-are = Left.posted-new number given (chain (c .n) last) came
 
-    last-fine : (v : ℕ) → Fine (last v)
-    unfolding start begin
-    last-fine v = posteriorsAfter-fine t s v (channels-fine positions metrics known v) (rounds c p metrics known limit)
-
     all-fine : (v x : ℕ) → v < c .n → x < 32 → T (fine (at (d .posteriors) (v * 32 + x)))
-    all-fine v x h l = rw (posteriors-are, vectors-at (c .n) last (posteriorsAfter-length t s (rounds c p metrics known limit)) v x h l) (last-fine v x l)
+    all-fine v x h l = rw (posteriors-are, vectors-at (c .n) last (posteriorsAfter-length t s (rounds c p metrics known limit)) v x h l) (every-fine (rounds c p metrics known limit) v x l)
 
   -- ---- the decisions of round r
 
@@ -248,6 +252,8 @@ module _ (c : Code) (p : Parts) (metrics : List Float) (known limit : ℕ) (word
     refused = λ z. let h = not-found e z in (miss-answer e h, miss-count e h, miss-word e h);
     none = λ z q a b. first-is .none q a (omega (arith, not-found e z));
     finite = all-fine e;
+    rounds-finite = every-fine;
+    rounds-zeros = decisions-zero;
   }
 
   -- so of every call that accepts, and of every one that 10 turns down
