@@ -17,12 +17,12 @@ use Rattle.vectors.specs.Vector.{vector}
 use Rattle.vectors.specs.Channel.{channel}
 use Rattle.vectors.specs.KnownZero.{knownZero}
 use Rattle.rounds.specs.Begin.{pastKnown, channels}
-use Rattle.rounds.specs.Work.{size, Wrote, Begun, Ends}
+use Rattle.rounds.specs.Work.{size, Wrote, Begun, Ends, toCheckAt, postAt}
 
 module _ (n edges k known : ℕ) (var info : List ℕ) (metrics : List Float) (small : n ≤ 256) (y : Ends n edges var) (few : known ≤ k) (w₀ w₁ w₂ w₃ w₄ : List Float)
     (long : length w₀ ≡ size) (a : Wrote n (λ v. v) (λ v. channel (vector metrics v)) w₀ w₁)
-    (b : Wrote (k - known) (λ t. nth info (known + t)) (λ _. knownZero) w₁ w₂) (c : Wrote edges (λ e. 256 + e) (λ e. vector w₂ (nth var e)) w₂ w₃)
-    (d : Wrote n (λ v. 1312 + v) (λ _. replicate 32 zero32) w₃ w₄) where
+    (b : Wrote (k - known) (λ t. nth info (known + t)) (λ _. knownZero) w₁ w₂) (c : Wrote edges toCheckAt (λ e. vector w₂ (nth var e)) w₂ w₃)
+    (d : Wrote n postAt (λ _. replicate 32 zero32) w₃ w₄) where
   abbrev positions : List ℕ
   positions = values k (nth info)
 
@@ -49,6 +49,6 @@ module _ (n edges k known : ℕ) (var info : List ℕ) (metrics : List Float) (s
   begun = record {
     long = d .long ∙ c .long ∙ b .long ∙ a .long ∙ long;
     vectors = λ v h. d .else v (λ j l q. omega arith) ∙ c .else v (λ j l q. omega arith) ∙ channel₂ v h;
-    messages = λ e h. d .else (256 + e) (λ j l q. omega (arith, y .few)) ∙ c .here e h ∙ channel₂ (nth var e) (y .vars e h);
+    messages = λ e h. d .else (toCheckAt e) (λ j l q. omega (arith, y .few)) ∙ c .here e h ∙ channel₂ (nth var e) (y .vars e h);
     posted = d .here;
   }

@@ -14,13 +14,13 @@ use Rattle.lists.proofs.Rising.{rises}
 use Rattle.vectors.specs.Vector.{Vector, vector, product}
 use Rattle.rounds.specs.CheckStep.{input, productOf, others, outgoing, fromCheck}
 use Rattle.rounds.specs.Checked.{messageIn, Messages, AllMessages}
-use Rattle.rounds.specs.Work.{toChecks, fromChecks, inputs, Wrote, Rows}
+use Rattle.rounds.specs.Work.{toChecks, fromChecks, inputs, Wrote, Rows, fromCheckAt, inputAt, toCheckAt}
 use Rattle.rounds.proofs.Alike.{productOf-ext, others-ext, input-ext, fromCheck-is}
 
 module _ (coef : List ℕ) (lo d : ℕ) (end : lo + d ≤ 512) (few : d ≤ 32) (w₀ w₁ w₂ w₃ : List Float)
-    (a : Wrote d (λ j. 1280 + j) (λ j. input coef (toChecks w₀) (lo + j)) w₀ w₁)
-    (b : Wrote d (λ j. 768 + (lo + j)) (λ j. productOf j (inputs w₁)) w₁ w₂)
-    (c : Wrote d (λ j. 768 + (lo + (d - 1 - j))) (messageIn coef lo d w₂) w₂ w₃) where
+    (a : Wrote d inputAt (λ j. input coef (toChecks w₀) (lo + j)) w₀ w₁)
+    (b : Wrote d (λ j. fromCheckAt (lo + j)) (λ j. productOf j (inputs w₁)) w₁ w₂)
+    (c : Wrote d (λ j. fromCheckAt (lo + (d - 1 - j))) (messageIn coef lo d w₂) w₂ w₃) where
   abbrev f : ℕ → Vector
   f = input coef (toChecks w₀)
 
@@ -33,7 +33,7 @@ module _ (coef : List ℕ) (lo d : ℕ) (end : lo + d ≤ 512) (few : d ≤ 32) 
       productOf-ext j _ _
       (λ i l.
       let q : lo + (d - 1 - i) ≡ lo + d - 1 - i = omega arith in
-      b .else (1280 + (d - 1 - i)) (λ k g r. omega arith) ∙ a .here (d - 1 - i) (omega arith) ∙ ap f q)
+      b .else (inputAt (d - 1 - i)) (λ k g r. omega arith) ∙ a .here (d - 1 - i) (omega arith) ∙ ap f q)
 
   made : (e : ℕ) → lo ≤ e → e < lo + d → fromChecks w₃ e ≡ outgoing (nth coef e) (others lo (lo + d) f e)
   unfolding others
@@ -62,7 +62,7 @@ module _ (coef : List ℕ) (lo d : ℕ) (end : lo + d ≤ 512) (few : d ≤ 32) 
     long = c .long ∙ b .long ∙ a .long;
     made = made;
     state = λ i h. kept i (inl (omega arith)) (omega arith);
-    other = λ e h o. kept (768 + e) (side e o) (omega arith);
+    other = λ e h o. kept (fromCheckAt e) (side e o) (omega arith);
   }
     where
       side : (e : ℕ) → (e < lo) ⊎ (lo + d ≤ e) → (768 + e < 768 + lo) ⊎ (768 + (lo + d) ≤ 768 + e)
@@ -98,7 +98,7 @@ module _ (m : ℕ) (coef row : List ℕ) (r : Rows m coef row) (w₀ : List Floa
       go e l (inl u) = b .other e (omega (arith, end, r .last)) (inl u) ∙ a .made e u
       go e l (inr u) =
           b .made e u l
-          ∙ ap (outgoing (nth coef e)) (others-ext (nth row k) (nth row (k + 1)) _ _ e u l (λ i p q. input-ext coef (toChecks w) (toChecks w₀) i (a .state (256 + i) (omega (arith, end, r .last)))))
+          ∙ ap (outgoing (nth coef e)) (others-ext (nth row k) (nth row (k + 1)) _ _ e u l (λ i p q. input-ext coef (toChecks w) (toChecks w₀) i (a .state (toCheckAt i) (omega (arith, end, r .last)))))
           ∙ sym (fromCheck-is m coef row r (toChecks w₀) k e h u l)
 
   pub made-end : (k : ℕ) (w : List Float) → k ≡ m → Made m coef row w₀ w k → AllMessages m coef row w₀ w

@@ -1,6 +1,6 @@
 -- A round from its three steps: the messages from checks, the posteriors with their decisions, and the messages to checks.
 -- Assumes nothing.
-use Prim.Native.Nat.{ℕ, _+_, _<_}
+use Prim.Native.Nat.{ℕ, _<_}
 use mathlib.Core.Path.{_≡_, ap, _∙_}
 use mathlib.Core.List.{List}
 use native.Mathlib.Omega.{arith}
@@ -14,13 +14,13 @@ use Rattle.rounds.specs.Tanner.{Tanner}
 use Rattle.rounds.specs.VariableStep.{posterior, toCheck}
 use Rattle.rounds.specs.Round.{State, answers, posteriors, round}
 use Rattle.rounds.specs.Checked.{AllMessages}
-use Rattle.rounds.specs.Work.{toChecks, fromChecks, Wrote, Holds, Rounded, Ready}
+use Rattle.rounds.specs.Work.{toChecks, fromChecks, Wrote, Holds, Rounded, Ready, toCheckAt, postAt, fromCheckAt}
 use Rattle.rounds.proofs.Alike.{fromCheck-ext, posterior-ext, toCheck-ext}
 
 module _ (t : Tanner) (y : Ready t) (s : State) (w₀ w₁ w₂ w₃ : List Float) (hard : List ℕ) (z : Holds t s w₀) (a : AllMessages (t .m) (t .coef) (t .row) w₀ w₁)
-    (b : Wrote (t .n) (λ v. 1312 + v) (posterior (t .start) (t .col) (vector w₁) (fromChecks w₁)) w₁ w₂)
+    (b : Wrote (t .n) postAt (posterior (t .start) (t .col) (vector w₁) (fromChecks w₁)) w₁ w₂)
     (d : hard ≡ values (t .n) (λ v. decision (posterior (t .start) (t .col) (vector w₁) (fromChecks w₁) v)))
-    (c : Wrote (t .edges) (λ e. 256 + e) (λ e. toCheck (t .start) (t .col) (vector w₂) (fromChecks w₂) (nth (t .var) e) e) w₂ w₃) where
+    (c : Wrote (t .edges) toCheckAt (λ e. toCheck (t .start) (t .col) (vector w₂) (fromChecks w₂) (nth (t .var) e) e) w₂ w₃) where
   -- the channel, and the messages from checks, after each step
   channel₁ : (v : ℕ) → v < t .n → vector w₁ v ≡ s .channel v
   channel₁ v h = a .state v (omega (arith, y .columns .small)) ∙ z .channel v h
@@ -34,7 +34,7 @@ module _ (t : Tanner) (y : Ready t) (s : State) (w₀ w₁ w₂ w₃ : List Floa
   channel₂ v h = b .else v (λ j l q. omega (arith, y .columns .small)) ∙ channel₁ v h
 
   from₂ : (e : ℕ) → e < t .edges → fromChecks w₂ e ≡ answers t s e
-  from₂ e h = b .else (768 + e) (λ j l q. omega (arith, y .ends .few)) ∙ from₁ e h
+  from₂ e h = b .else (fromCheckAt e) (λ j l q. omega (arith, y .ends .few)) ∙ from₁ e h
 
   posterior₁ : (v : ℕ) → v < t .n → posterior (t .start) (t .col) (vector w₁) (fromChecks w₁) v ≡ posteriors t s v
   unfolding posteriors
@@ -56,6 +56,6 @@ module _ (t : Tanner) (y : Ready t) (s : State) (w₀ w₁ w₂ w₃ : List Floa
   pub rounded : Rounded t s w₃ hard
   rounded = record {
     state = record { long = c .long ∙ b .long ∙ a .long ∙ z .long; channel = channel₃; messages = message₃ };
-    posted = λ v h. c .else (1312 + v) (λ j l q. omega (arith, y .ends .few)) ∙ b .here v h ∙ posterior₁ v h;
+    posted = λ v h. c .else (postAt v) (λ j l q. omega (arith, y .ends .few)) ∙ b .here v h ∙ posterior₁ v h;
     decided = d ∙ values-ext (t .n) _ _ 0 (λ v h. ap decision (posterior₁ v h));
   }

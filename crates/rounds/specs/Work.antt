@@ -19,20 +19,31 @@ use Rattle.rounds.specs.Round.{State, posteriors, round}
 abbrev pub size : ℕ
 size = 50176
 
--- the message to the check, and from it, at place e
+-- where the message to the check of the edge at place e stands, the message from it, input j of a check, and the posterior of variable v
+abbrev pub toCheckAt : ℕ → ℕ
+toCheckAt e = 256 + e
+
+abbrev pub fromCheckAt : ℕ → ℕ
+fromCheckAt e = 768 + e
+
+abbrev pub inputAt : ℕ → ℕ
+inputAt j = 1280 + j
+
+abbrev pub postAt : ℕ → ℕ
+postAt v = 1312 + v
+
+-- and what stands there
 abbrev pub toChecks : List Float → ℕ → Vector
-toChecks w e = vector w (256 + e)
+toChecks w e = vector w (toCheckAt e)
 
 abbrev pub fromChecks : List Float → ℕ → Vector
-fromChecks w e = vector w (768 + e)
+fromChecks w e = vector w (fromCheckAt e)
 
--- input j of a check
 abbrev pub inputs : List Float → ℕ → Vector
-inputs w j = vector w (1280 + j)
+inputs w j = vector w (inputAt j)
 
--- the posterior of variable v
 abbrev pub posts : List Float → ℕ → Vector
-posts w v = vector w (1312 + v)
+posts w v = vector w (postAt v)
 
 -- w₀ with the vectors f 0, .., f (k - 1) at place 0, .., place (k - 1)
 pub record Wrote (k : ℕ) (place : ℕ → ℕ) (f : ℕ → Vector) (w₀ w : List Float) : Type 0 where

@@ -9,7 +9,7 @@ ghost use Rattle.vectors.specs.Vector.{vector};
 ghost use Rattle.vectors.specs.Channel.{channel};
 ghost use Rattle.vectors.specs.KnownZero.{knownZero};
 ghost use Rattle.rounds.specs.Begin.{channels};
-ghost use Rattle.rounds.specs.Work.{size, Wrote, Ends, Begun};
+ghost use Rattle.rounds.specs.Work.{size, Wrote, Ends, Begun, toCheckAt, postAt};
 use crate::rows::POSTERIORS;
 use crate::rows::TO_CHECKS;
 use vectors::channel::channel;
@@ -44,7 +44,7 @@ fn begin_zeros(k: usize, known: usize, info: &[u16], w: &mut [f32])
 // The first messages to checks are the channel vectors as they are.
 fn begin_messages(n: usize, edges: usize, var: &[u16], w: &mut [f32])
     requires { ⌜ (n ≤ 256) × (Ends n edges (now var)) × (length (now w) ≡ size) ⌝ }
-    ensures { λ _. ⌜ Wrote edges (λ e. 256 + e) (λ e. vector (now (w .entry)) (nth (now (var .entry)) e)) (now (w .entry)) (now (w .exit)) ⌝ }
+    ensures { λ _. ⌜ Wrote edges toCheckAt (λ e. vector (now (w .entry)) (nth (now (var .entry)) e)) (now (w .entry)) (now (w .exit)) ⌝ }
 {
     for e in 0..edges {
         let p = load(w, var[e] as usize);
@@ -55,7 +55,7 @@ fn begin_messages(n: usize, edges: usize, var: &[u16], w: &mut [f32])
 // No round is made yet.
 fn begin_posteriors(n: usize, w: &mut [f32])
     requires { ⌜ (n ≤ 256) × (length (now w) ≡ size) ⌝ }
-    ensures { λ _. ⌜ Wrote n (λ v. 1312 + v) (λ _. replicate 32 zero32) (now (w .entry)) (now (w .exit)) ⌝ }
+    ensures { λ _. ⌜ Wrote n postAt (λ _. replicate 32 zero32) (now (w .entry)) (now (w .exit)) ⌝ }
 {
     let zero = [0.0f32; 32];
     for v in 0..n {

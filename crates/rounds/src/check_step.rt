@@ -5,7 +5,7 @@ ghost use lib.ListN.{length};
 ghost use Rattle.vectors.specs.Products.{Products};
 ghost use Rattle.rounds.specs.CheckStep.{input, productOf, outgoing};
 ghost use Rattle.rounds.specs.Checked.{Checked, Messages, messageIn};
-ghost use Rattle.rounds.specs.Work.{size, toChecks, inputs, Wrote};
+ghost use Rattle.rounds.specs.Work.{size, toChecks, inputs, Wrote, fromCheckAt, inputAt};
 use crate::rows::FROM_CHECKS;
 use crate::rows::INPUTS;
 use crate::rows::TO_CHECKS;
@@ -21,7 +21,7 @@ use vectors::wht::wht;
 fn transform_inputs(table: &[u8], coef: &[u8], lo: usize, d: usize, w: &mut [f32])
     requires { ⌜ Products (now table) ⌝ }
     requires { ⌜ Checked (now coef) lo d (now w) ⌝ }
-    ensures { λ _. ⌜ Wrote d (λ j. 1280 + j) (λ j. input (now (coef .entry)) (toChecks (now (w .entry))) (lo + j)) (now (w .entry)) (now (w .exit)) ⌝ }
+    ensures { λ _. ⌜ Wrote d inputAt (λ j. input (now (coef .entry)) (toChecks (now (w .entry))) (lo + j)) (now (w .entry)) (now (w .exit)) ⌝ }
 {
     for j in 0..d {
         let e = lo + j;
@@ -35,7 +35,7 @@ fn transform_inputs(table: &[u8], coef: &[u8], lo: usize, d: usize, w: &mut [f32
 // The products of the inputs before each edge.
 fn multiply_before(lo: usize, d: usize, w: &mut [f32])
     requires { ⌜ (lo + d ≤ 512) × (d ≤ 32) × (length (now w) ≡ size) ⌝ }
-    ensures { λ _. ⌜ Wrote d (λ j. 768 + (lo + j)) (λ j. productOf j (inputs (now (w .entry)))) (now (w .entry)) (now (w .exit)) ⌝ }
+    ensures { λ _. ⌜ Wrote d (λ j. fromCheckAt (lo + j)) (λ j. productOf j (inputs (now (w .entry)))) (now (w .entry)) (now (w .exit)) ⌝ }
 {
     let mut before = [1.0f32; 32];
     for j in 0..d {
@@ -60,7 +60,7 @@ fn message(table: &[u8], h: u8, p: [f32; 32]) -> [f32; 32]
 fn multiply_after(table: &[u8], coef: &[u8], lo: usize, d: usize, w: &mut [f32])
     requires { ⌜ Products (now table) ⌝ }
     requires { ⌜ Checked (now coef) lo d (now w) ⌝ }
-    ensures { λ _. ⌜ Wrote d (λ j. 768 + (lo + (d - 1 - j))) (λ j. messageIn (now (coef .entry)) lo d (now (w .entry)) j) (now (w .entry)) (now (w .exit)) ⌝ }
+    ensures { λ _. ⌜ Wrote d (λ j. fromCheckAt (lo + (d - 1 - j))) (λ j. messageIn (now (coef .entry)) lo d (now (w .entry)) j) (now (w .entry)) (now (w .exit)) ⌝ }
 {
     let mut after = [1.0f32; 32];
     for j in 0..d {

@@ -11,7 +11,7 @@ ghost use Rattle.rounds.specs.Tanner.{lentGraph};
 ghost use Rattle.rounds.specs.Round.{State};
 ghost use Rattle.rounds.specs.VariableStep.{posterior, toCheck};
 ghost use Rattle.rounds.specs.Checked.{AllMessages};
-ghost use Rattle.rounds.specs.Work.{size, fromChecks, Wrote, Holds, Rows, Narrow, Columns, Ends, Ready, Rounded};
+ghost use Rattle.rounds.specs.Work.{size, fromChecks, Wrote, Holds, Rows, Narrow, Columns, Ends, Ready, Rounded, toCheckAt, postAt};
 use crate::check_step::check;
 use crate::rows::POSTERIORS;
 use crate::rows::TO_CHECKS;
@@ -37,7 +37,7 @@ fn check_all(table: &[u8], m: usize, coef: &[u8], row: &[u16], w: &mut [f32])
 // All posteriors and decisions.
 fn decide_all(n: usize, start: &[u16], col: &[u16], w: &mut [f32], hard: &mut [u8])
     requires { ⌜ (Columns n (now start) (now col)) × (length (now w) ≡ size) × (length (now hard) ≡ n) ⌝ }
-    ensures { λ _. ⌜ Wrote n (λ v. 1312 + v) (posterior (now (start .entry)) (now (col .entry)) (vector (now (w .entry))) (fromChecks (now (w .entry)))) (now (w .entry)) (now (w .exit)) ⌝ }
+    ensures { λ _. ⌜ Wrote n postAt (posterior (now (start .entry)) (now (col .entry)) (vector (now (w .entry))) (fromChecks (now (w .entry)))) (now (w .entry)) (now (w .exit)) ⌝ }
     ensures { λ _. ⌜ now (hard .exit) ≡ values n (λ v. decision (posterior (now (start .entry)) (now (col .entry)) (vector (now (w .entry))) (fromChecks (now (w .entry))) v)) ⌝ }
 {
     for v in 0..n {
@@ -51,7 +51,7 @@ fn decide_all(n: usize, start: &[u16], col: &[u16], w: &mut [f32], hard: &mut [u
 // All messages to checks.
 fn send_all(n: usize, edges: usize, var: &[u16], start: &[u16], col: &[u16], w: &mut [f32])
     requires { ⌜ (Columns n (now start) (now col)) × (Ends n edges (now var)) × (length (now w) ≡ size) ⌝ }
-    ensures { λ _. ⌜ Wrote edges (λ e. 256 + e) (λ e. toCheck (now (start .entry)) (now (col .entry)) (vector (now (w .entry))) (fromChecks (now (w .entry))) (nth (now (var .entry)) e) e) (now (w .entry)) (now (w .exit)) ⌝ }
+    ensures { λ _. ⌜ Wrote edges toCheckAt (λ e. toCheck (now (start .entry)) (now (col .entry)) (vector (now (w .entry))) (fromChecks (now (w .entry))) (nth (now (var .entry)) e) e) (now (w .entry)) (now (w .exit)) ⌝ }
 {
     for e in 0..edges {
         let v = var[e] as usize;

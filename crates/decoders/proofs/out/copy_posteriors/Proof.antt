@@ -1,6 +1,6 @@
 -- `decoders::out::copy_posteriors` meets its contract. The invariant: the posteriors of the first v variables are copied.
 -- Assumes nothing.
-use Prim.Native.Nat.{ℕ, _+_, _-_, _≤_}
+use Prim.Native.Nat.{ℕ, _-_, _≤_}
 use mathlib.Core.Path.{_≡_, ap, _∙_}
 use native.Mathlib.Omega.{arith}
 use denote.Ref.{now}
@@ -10,7 +10,7 @@ use Rattle.lists.specs.Laid.{laid}
 use Rattle.lists.proofs.Chain.{chain-start}
 use Rattle.vectors.specs.Vector.{stored}
 use Rattle.vectors.proofs.Stored.{vector-length, stored-length}
-use Rattle.rounds.specs.Work.{posts}
+use Rattle.rounds.specs.Work.{posts, postAt}
 use Rattle.decoders.proofs.Copied.{chain-store, chain-all}
 use Rattle.decoders.proofs.out.copy_posteriors.Statement.{statement}
 use Rattle.decoders.proofs.out.copy_posteriors.Tie as tie
@@ -28,8 +28,8 @@ loop-again c =
     let w = now (s .args .vectors) in
     let put = c .before .before .store .ensures ∙ ap (stored (l .posteriors) (l .v)) (c .before .before .before .before .before .load .ensures) in (
       omega arith,
-      ap length put ∙ stored-length (l .posteriors) (l .v) (posts w (l .v)) (vector-length w (1312 + l .v)) (omega (arith, s .pre .2)) ∙ l .inv .1,
-      chain-store (posts w) (λ v. vector-length w (1312 + v)) (l .v) (now (s .args .posteriors)) (l .posteriors) _ (l .inv .2) put,
+      ap length put ∙ stored-length (l .posteriors) (l .v) (posts w (l .v)) (vector-length w (postAt (l .v))) (omega (arith, s .pre .2)) ∙ l .inv .1,
+      chain-store (posts w) (λ v. vector-length w (postAt v)) (l .v) (now (s .args .posteriors)) (l .posteriors) _ (l .inv .2) put,
     )
 
 pub copy-posteriors-spec : {M : Type 1} → statement M
@@ -51,4 +51,4 @@ copy-posteriors-spec =
     let l = c .before .loop in
     let w = now (s .args .vectors) in
     let e : l .v ≡ s .args .n = omega arith in
-    l .inv .2 ∙ ap (λ (v : ℕ). laid (chain v (posts w)) (now (s .args .posteriors))) e ∙ chain-all (posts w) (λ v. vector-length w (1312 + v)) (s .args .n) (now (s .args .posteriors)) (s .pre .2)))
+    l .inv .2 ∙ ap (λ (v : ℕ). laid (chain v (posts w)) (now (s .args .posteriors))) e ∙ chain-all (posts w) (λ v. vector-length w (postAt v)) (s .args .n) (now (s .args .posteriors)) (s .pre .2)))

@@ -1,6 +1,6 @@
 -- `rounds::begin::begin_messages` meets its contract. The invariant: the first e messages to checks are written, and no channel vector is changed.
 -- Assumes nothing.
-use Prim.Native.Nat.{_+_, _-_, _≤_}
+use Prim.Native.Nat.{_-_, _≤_}
 use mathlib.Core.Path.{_∙_}
 use native.Mathlib.Omega.{arith}
 use borrow.Author.Needs.{needs}
@@ -8,7 +8,7 @@ use denote.Ref.{now}
 use Rattle.lists.specs.Entry.{nth}
 use Rattle.vectors.specs.Vector.{vector}
 use Rattle.vectors.proofs.Stored.{vector-length}
-use Rattle.rounds.specs.Work.{Wrote}
+use Rattle.rounds.specs.Work.{Wrote, toCheckAt}
 use Rattle.rounds.proofs.WroteLaws.{wrote-start, wrote-on, wrote-end}
 use Rattle.rounds.proofs.begin.begin_messages.Statement.{statement}
 use Rattle.rounds.proofs.begin.begin_messages.Tie as tie
@@ -17,7 +17,7 @@ pub begin-messages-spec : {M : Type 1} → statement M
 begin-messages-spec =
     tie.close
     (tie.spec
-    (λ n edges var w₀ e₀ w e. (e ≤ edges) × Wrote e (λ e. 256 + e) (λ e. vector w₀ (nth var e)) w₀ w)
+    (λ n edges var w₀ e₀ w e. (e ≤ edges) × Wrote e toCheckAt (λ e. vector w₀ (nth var e)) w₀ w)
     (λ n edges var w₀ e₀ w e. edges - e)
     (λ c. (omega arith, wrote-start _ _ _))
     (λ c. search needs)

@@ -1,11 +1,11 @@
 -- `rounds::begin::begin_posteriors` meets its contract. The invariant: the first v posteriors are cleared.
 -- Assumes nothing.
-use Prim.Native.Nat.{_+_, _-_, _≤_}
+use Prim.Native.Nat.{_-_, _≤_}
 use mathlib.Core.Path.{refl}
 use native.Mathlib.Omega.{arith}
 use lib.ListN.{replicate, length-replicate}
 use Rattle.vectors.specs.Float32.{zero32}
-use Rattle.rounds.specs.Work.{Wrote}
+use Rattle.rounds.specs.Work.{Wrote, postAt}
 use Rattle.rounds.proofs.WroteLaws.{wrote-start, wrote-on, wrote-end}
 use Rattle.rounds.proofs.begin.begin_posteriors.Statement.{statement}
 use Rattle.rounds.proofs.begin.begin_posteriors.Tie as tie
@@ -14,7 +14,7 @@ pub begin-posteriors-spec : {M : Type 1} → statement M
 begin-posteriors-spec =
     tie.close
     (tie.spec
-    (λ n w₀ zero v₀ w v. (v ≤ n) × Wrote v (λ v. 1312 + v) (λ _. replicate 32 zero32) w₀ w)
+    (λ n w₀ zero v₀ w v. (v ≤ n) × Wrote v postAt (λ _. replicate 32 zero32) w₀ w)
     (λ n w₀ zero v₀ w v. n - v)
     (λ c. (omega arith, wrote-start _ _ _))
     (λ c. omega arith)

@@ -10,7 +10,7 @@ use Rattle.lists.specs.Entry.{nth}
 use Rattle.vectors.specs.Vector.{Vector, product}
 use Rattle.rounds.specs.CheckStep.{productOf, outgoing}
 use Rattle.rounds.specs.Checked.{messageIn}
-use Rattle.rounds.specs.Work.{fromChecks, inputs, Wrote}
+use Rattle.rounds.specs.Work.{fromChecks, inputs, Wrote, fromCheckAt, inputAt}
 use Rattle.rounds.proofs.Alike.{productOf-start, productOf-on}
 use Rattle.rounds.proofs.Lengths.{outgoing-length}
 use Rattle.rounds.proofs.WroteLaws.{wrote-start, wrote-on, wrote-end}
@@ -19,7 +19,7 @@ use Rattle.rounds.proofs.check_step.multiply_after.Tie as tie
 
 abbrev Inv-loop : tie.InvT-loop
 Inv-loop table coef lo d w₀ after₀ j₀ w after j =
-    (j ≤ d) × (length w ≡ length w₀) × (after ≡ productOf j (λ i. inputs w₀ (d - 1 - i))) × Wrote j (λ j. 768 + (lo + (d - 1 - j))) (messageIn coef lo d w₀) w₀ w
+    (j ≤ d) × (length w ≡ length w₀) × (after ≡ productOf j (λ i. inputs w₀ (d - 1 - i))) × Wrote j (λ j. fromCheckAt (lo + (d - 1 - j))) (messageIn coef lo d w₀) w₀ w
 
 abbrev μ-loop : tie.MeasureT-loop
 μ-loop table coef lo d w₀ after₀ j₀ w after j = d - j
@@ -37,14 +37,14 @@ loop-again c =
     let given = now (s .args .w) in
     let f : ℕ → Vector = λ j. inputs given (s .args .d - 1 - j) in
     let e = s .args .lo + (s .args .d - 1 - l .j) in
-    let old = b .before .before .load .ensures ∙ l .inv .3 .else (768 + e) (λ j h r. omega arith) in
+    let old = b .before .before .load .ensures ∙ l .inv .3 .else (fromCheckAt e) (λ j h r. omega arith) in
     let others = b .multiply .ensures ∙ ap₂ product old (l .inv .2) in
     let made = c .before .before .before .before .before .before .before .before .before .message .ensures ∙ ap (outgoing (nth (now (s .args .coef)) e)) others in
     let w =
-    wrote-on (λ j. 768 + (s .args .lo + (s .args .d - 1 - j))) (messageIn (now (s .args .coef)) (s .args .lo) (s .args .d) given) given (l .j) (l .w) _ _ (l .inv .3)
+    wrote-on (λ j. fromCheckAt (s .args .lo + (s .args .d - 1 - j))) (messageIn (now (s .args .coef)) (s .args .lo) (s .args .d) given) given (l .j) (l .w) _ _ (l .inv .3)
     (c .before .before .before .before .before .before .store .ensures) made
     (outgoing-length (nth (now (s .args .coef)) e) (product (fromChecks given e) (productOf (l .j) f))) (omega (arith, q .end, q .long)) (λ j h r. absurd (omega arith)) in
-    let read = c .before .before .load2 .ensures ∙ w .else (1280 + (s .args .d - 1 - l .j)) (λ j h r. omega (arith, q .end)) in
+    let read = c .before .before .load2 .ensures ∙ w .else (inputAt (s .args .d - 1 - l .j)) (λ j h r. omega (arith, q .end)) in
     (omega arith, w .long, c .multiply2 .ensures ∙ productOf-on (l .j) f _ _ (l .inv .2) read, w)
 
 pub multiply-after-spec : {M : Type 1} → statement M

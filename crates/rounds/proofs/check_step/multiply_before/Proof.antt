@@ -8,7 +8,7 @@ use denote.Ref.{now}
 use lib.ListN.{length}
 use Rattle.vectors.specs.Vector.{Vector}
 use Rattle.rounds.specs.CheckStep.{productOf}
-use Rattle.rounds.specs.Work.{inputs, Wrote}
+use Rattle.rounds.specs.Work.{inputs, Wrote, fromCheckAt}
 use Rattle.rounds.proofs.Alike.{productOf-start, productOf-on}
 use Rattle.rounds.proofs.Lengths.{productOf-length}
 use Rattle.rounds.proofs.WroteLaws.{wrote-start, wrote-on, wrote-end}
@@ -17,7 +17,7 @@ use Rattle.rounds.proofs.check_step.multiply_before.Tie as tie
 
 abbrev Inv-loop : tie.InvT-loop
 Inv-loop lo d w₀ before₀ j₀ w before j =
-    (j ≤ d) × (length w ≡ length w₀) × (before ≡ productOf j (inputs w₀)) × Wrote j (λ j. 768 + (lo + j)) (λ j. productOf j (inputs w₀)) w₀ w
+    (j ≤ d) × (length w ≡ length w₀) × (before ≡ productOf j (inputs w₀)) × Wrote j (λ j. fromCheckAt (lo + j)) (λ j. productOf j (inputs w₀)) w₀ w
 
 abbrev μ-loop : tie.MeasureT-loop
 μ-loop lo d w₀ before₀ j₀ w before j = d - j
@@ -32,7 +32,7 @@ loop-again c =
     let l = i .before .loop in
     let f : ℕ → Vector = inputs (now (s .args .w)) in
     let w =
-    wrote-on (λ j. 768 + (s .args .lo + j)) (λ j. productOf j f) (now (s .args .w)) (l .j) (l .w) _ _ (l .inv .3) (c .before .before .before .before .before .before .store .ensures) (l .inv .2)
+    wrote-on (λ j. fromCheckAt (s .args .lo + j)) (λ j. productOf j f) (now (s .args .w)) (l .j) (l .w) _ _ (l .inv .3) (c .before .before .before .before .before .before .store .ensures) (l .inv .2)
     (productOf-length (l .j) f) (omega (arith, s .pre .0, s .pre .2)) (λ j h e. absurd (omega arith)) in
     let read = c .before .before .load .ensures ∙ w .else _ (λ j h e. omega (arith, s .pre .0)) in
     (omega arith, w .long, c .multiply .ensures ∙ productOf-on (l .j) f _ _ (l .inv .2) read, w)

@@ -10,14 +10,14 @@ use Rattle.vectors.specs.Multiplied.{permuted}
 use Rattle.vectors.specs.Vector.{Vector}
 use Rattle.vectors.specs.Wht.{wht}
 use Rattle.rounds.specs.CheckStep.{input}
-use Rattle.rounds.specs.Work.{toChecks, Wrote}
+use Rattle.rounds.specs.Work.{toChecks, Wrote, inputAt}
 use Rattle.rounds.proofs.Lengths.{input-length}
 use Rattle.rounds.proofs.WroteLaws.{wrote-start, wrote-on, wrote-end}
 use Rattle.rounds.proofs.check_step.transform_inputs.Statement.{statement}
 use Rattle.rounds.proofs.check_step.transform_inputs.Tie as tie
 
 abbrev Inv-loop : tie.InvT-loop
-Inv-loop table coef lo d w₀ j₀ w j = (j ≤ d) × (length w ≡ length w₀) × Wrote j (λ j. 1280 + j) (λ j. input coef (toChecks w₀) (lo + j)) w₀ w
+Inv-loop table coef lo d w₀ j₀ w j = (j ≤ d) × (length w ≡ length w₀) × Wrote j inputAt (λ j. input coef (toChecks w₀) (lo + j)) w₀ w
 
 abbrev μ-loop : tie.MeasureT-loop
 μ-loop table coef lo d w₀ j₀ w j = d - j

@@ -12,7 +12,7 @@ use Rattle.lists.proofs.Laid.{fill-start, fill-on, fill-end, fill-all}
 use Rattle.vectors.specs.Decision.{decision}
 use Rattle.vectors.specs.Vector.{Vector, vector}
 use Rattle.rounds.specs.VariableStep.{posterior}
-use Rattle.rounds.specs.Work.{fromChecks, Wrote}
+use Rattle.rounds.specs.Work.{fromChecks, Wrote, postAt, fromCheckAt}
 use Rattle.rounds.proofs.Lengths.{posterior-length}
 use Rattle.rounds.proofs.VariableLists.{listed, posterior-made}
 use Rattle.rounds.proofs.WroteLaws.{wrote-start, wrote-on, wrote-end}
@@ -22,7 +22,7 @@ use Rattle.rounds.proofs.round.decide_all.Tie as tie
 abbrev Inv-loop : tie.InvT-loop
 Inv-loop n start col w₀ hard₀ v₀ w hard v =
     (v ≤ n) × (length w ≡ length w₀) × (length hard ≡ length hard₀)
-    × Wrote v (λ v. 1312 + v) (posterior start col (vector w₀) (fromChecks w₀)) w₀ w
+    × Wrote v postAt (posterior start col (vector w₀) (fromChecks w₀)) w₀ w
     × (hard ≡ laid (values v (λ v. decision (posterior start col (vector w₀) (fromChecks w₀) v))) hard₀)
 
 abbrev μ-loop : tie.MeasureT-loop
@@ -42,10 +42,10 @@ loop-again c =
     let a = l .inv .3 in
     let post =
     posterior-made (s .args .n) (now (s .args .start)) (now (s .args .col)) (s .pre .0) (l .w) (l .v) (i .loop-test .taken) (now (s .args .w))
-    (λ k h. a .else k (λ j b e. omega arith)) (λ k h. a .else (768 + k) (λ j b e. omega arith)) _ _
+    (λ k h. a .else k (λ j b e. omega arith)) (λ k h. a .else (fromCheckAt k) (λ j b e. omega arith)) _ _
     (c .before .before .before .before .before .before .before .normalize .ensures) (c .before .before .before .before .before .before .before .before .gather .ensures) in
     let w =
-    wrote-on (λ v. 1312 + v) (posts s) (now (s .args .w)) (l .v) (l .w) _ _ a (c .before .before .before .before .store .ensures) post
+    wrote-on postAt (posts s) (now (s .args .w)) (l .v) (l .w) _ _ a (c .before .before .before .before .store .ensures) post
     (posterior-length _ _ _ _ _) (omega (arith, s .pre .0 .small, s .pre .1)) (λ j h e. absurd (omega arith)) in (
       omega arith,
       w .long,

@@ -9,7 +9,7 @@ use lib.ListN.{length}
 use Rattle.lists.specs.Entry.{nth}
 use Rattle.vectors.specs.Vector.{Vector, vector}
 use Rattle.rounds.specs.VariableStep.{toCheck}
-use Rattle.rounds.specs.Work.{fromChecks, Wrote}
+use Rattle.rounds.specs.Work.{fromChecks, Wrote, toCheckAt, fromCheckAt}
 use Rattle.rounds.proofs.Lengths.{toCheck-length}
 use Rattle.rounds.proofs.VariableLists.{listed, toCheck-made}
 use Rattle.rounds.proofs.WroteLaws.{wrote-start, wrote-on, wrote-end}
@@ -18,7 +18,7 @@ use Rattle.rounds.proofs.round.send_all.Tie as tie
 
 abbrev Inv-loop : tie.InvT-loop
 Inv-loop n edges var start col w₀ e₀ w e =
-    (e ≤ edges) × (length w ≡ length w₀) × Wrote e (λ e. 256 + e) (λ e. toCheck start col (vector w₀) (fromChecks w₀) (nth var e) e) w₀ w
+    (e ≤ edges) × (length w ≡ length w₀) × Wrote e toCheckAt (λ e. toCheck start col (vector w₀) (fromChecks w₀) (nth var e) e) w₀ w
 
 abbrev μ-loop : tie.MeasureT-loop
 μ-loop n edges var start col w₀ e₀ w e = edges - e
@@ -45,10 +45,10 @@ loop-again c =
     let q = s .pre .1 in
     let message =
     toCheck-made (s .args .n) (now (s .args .start)) (now (s .args .col)) (s .pre .0) (l .w) (v i) (inside i) (now (s .args .w))
-    (λ k h. a .else k (λ j b e. omega arith)) (λ k h. a .else (768 + k) (λ j b e. omega (arith, q .few))) _ _
+    (λ k h. a .else k (λ j b e. omega arith)) (λ k h. a .else (fromCheckAt k) (λ j b e. omega (arith, q .few))) _ _
     (c .before .before .before .before .before .normalize .ensures) (l .e) (c .before .before .before .before .before .before .gather-without .ensures) in
     let w =
-    wrote-on (λ e. 256 + e) (messages s) (now (s .args .w)) (l .e) (l .w) _ _ a (c .before .before .store .ensures) message
+    wrote-on toCheckAt (messages s) (now (s .args .w)) (l .e) (l .w) _ _ a (c .before .before .store .ensures) message
     (toCheck-length _ _ _ _ _ _) (omega (arith, q .few, s .pre .2)) (λ j h e. absurd (omega arith)) in
     (omega arith, w .long, w)
 
