@@ -28,7 +28,7 @@ fn rust_with_own_exp(built: &OwnExpCode, metrics: &[f32], limit: u32) -> Result<
     built.decode_soft(metrics, built.k(), limit as usize)
 }
 
-const TIMES: usize = 30;
+const TIMES: usize = 200;
 
 /// One round and a frame's hundred at each of the four rates: the whole call, and without the test of
 /// the lent code, as for words. The Rust has document 01's exp here, and once its own. A further round,
