@@ -119,6 +119,6 @@ module _ (c : Code) (p : Parts) (metrics : List Float) (known limit : ℕ) (word
 -- ---- without the posteriors
 
 module _ (c : Code) (metrics : List Float) (word : List ℕ) (vectors : List Float) where
-  pub rest-without : misfit ((length metrics, c .n * 32) ∷ (length word, c .n) ∷ (length vectors, Bp.vectorsLength) ∷ [])
+  pub rest-without : misfit ((length metrics, c .n * 32) ∷ (length word, c .n) ∷ (length vectors, Work.vectorsLength) ∷ [])
       ≡ misfit (ownLengths c metrics word (replicate (c .n * 32) zero32) vectors)
   rest-without = rw (eq-eqb (length (replicate (c .n * 32) zero32)) (c .n * 32) (length-replicate (c .n * 32) zero32))

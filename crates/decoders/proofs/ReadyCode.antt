@@ -16,7 +16,7 @@ use Rattle.graph.specs.Parts.{Parts}
 use Rattle.lent.specs.Sound.{Sound}
 use Rattle.words.proofs.LentWords.{positions-all}
 use Rattle.rounds.specs.Tanner.{tannerIn}
-use Rattle.rounds.specs.Work.{Narrow, Ready}
+use Rattle.rounds.specs.Ready.{Narrow, Ready}
 use Rattle.rounds.specs.declared.rounds.Ended.{Ended}
 use Rattle.rounds.specs.Begin.{begin}
 use Rattle.rounds.specs.GoneOn.{GoneOn}

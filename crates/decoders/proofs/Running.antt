@@ -13,7 +13,7 @@ use Rattle.rounds.specs.Tanner.{Tanner}
 use Rattle.rounds.specs.Round.{State}
 use Rattle.rounds.specs.Begin.{channels, begin}
 use Rattle.rounds.specs.Rounds.{posteriorsAfter}
-use Rattle.rounds.specs.Work.{Holds, Posted, Begun}
+use Rattle.rounds.specs.Holds.{Holds, Posted, Begun}
 use Rattle.rounds.specs.GoneOn.{GoneOn}
 use Rattle.decoders.proofs.Beginning.{channels-count}
 

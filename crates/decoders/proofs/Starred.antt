@@ -23,15 +23,15 @@ use Rattle.lists.specs.While.{while}
 use Rattle.lists.proofs.Cases.{true-or-false}
 use Rattle.lists.proofs.Choice.{pick-true, pick-false}
 use Rattle.lists.proofs.Values.{values-ext}
-use Rattle.field.specs.Field as Field
+use Rattle.field.specs.Field.{product}
 use Rattle.field.proofs.Product.{product-zero, product-lt, no-zero-divisors}
 use Rattle.vectors.specs.Float32.{zero32, one32, tiny32}
-use Rattle.vectors.specs.Vector.{Vector, at, vector, product}
+use Rattle.vectors.specs.Vector.{Vector, at, vector, entryProduct}
 use Rattle.vectors.specs.Channel.{greatest, likelihood, channel}
 use Rattle.vectors.specs.Exp.{reduced, exp}
 use Rattle.vectors.specs.Wht.{butterflies, wht}
 use Rattle.vectors.specs.Multiplied.{raised, readBack}
-use Rattle.vectors.specs.Normalized.{sum, scaled, normalized}
+use Rattle.vectors.specs.Normalized.{entrySum, scaled, normalized}
 use Rattle.vectors.specs.Decision.{decision}
 use Rattle.vectors.specs.KnownZero.{knownZero}
 use Rattle.elimination.specs.Graph.{Edge, Graph, check}
@@ -59,7 +59,8 @@ use Rattle.rounds.specs.Round.{State, answers, posteriors}
 use Rattle.rounds.specs.Begin.{pastKnown, channels, begin}
 use Rattle.rounds.specs.Rounds.{after, posteriorsAfter, decisions, satisfies}
 use Rattle.rounds.proofs.KnownRounds.{known-posterior}
-use Rattle.decoders.specs.BeliefPropagation.{start, wide, vectorsLength}
+use Rattle.rounds.specs.Work.{vectorsLength}
+use Rattle.decoders.specs.BeliefPropagation.{start, wide}
 use Rattle.decoders.specs.DecodeSoft.{decodeSoft}
 use Rattle.decoders.proofs.Theorem.{Decodes, fitting-comes, decodes}
 
@@ -71,10 +72,10 @@ thirtyTwo = ofBits binary32 0x4200_0000
 
 -- what a check transforms for its only edge, and what that becomes: 32.0 at 0, 0.0 elsewhere
 abbrev ones : Vector
-ones = product (replicate 32 one32) (replicate 32 one32)
+ones = entryProduct (replicate 32 one32) (replicate 32 one32)
 
 ones-wht : wht ones ≡ set (replicate 32 zero32) 0 thirtyTwo
-unfolding wht butterflies product iter values mul add sub round ofBits
+unfolding wht butterflies entryProduct iter values mul add sub round ofBits
 ones-wht = refl
 
 -- read back and raised: 1e-30 elsewhere
@@ -89,17 +90,17 @@ rest-raised : raised zero32 ≡ tiny32
 unfolding raised pick lt ofBits
 rest-raised = refl
 
-flat : decision (normalized (product (channel (vector (replicate 32 zero32) 0)) (normalized sent))) ≡ 0
-unfolding decision normalized sum scaled product vector channel greatest likelihood exp reduced iter while values pick lt le mul add sub div neg round ofBits
+flat : decision (normalized (entryProduct (channel (vector (replicate 32 zero32) 0)) (normalized sent))) ≡ 0
+unfolding decision normalized entrySum scaled entryProduct vector channel greatest likelihood exp reduced iter while values pick lt le mul add sub div neg round ofBits
 flat = refl
 
 -- ---- the message from a check with one edge
 
 -- by any coefficient but 0
-own-read : (h : ℕ) → 0 < h → h < 32 → (x : ℕ) → x < 32 → raised (at (set (replicate 32 zero32) 0 thirtyTwo) (Field.product h x)) ≡ at sent x
+own-read : (h : ℕ) → 0 < h → h < 32 → (x : ℕ) → x < 32 → raised (at (set (replicate 32 zero32) 0 thirtyTwo) (product h x)) ≡ at sent x
 own-read h a b zero l = ap (λ (k : ℕ). raised (at (set (replicate 32 zero32) 0 thirtyTwo) k)) (product-zero h) ∙ first-raised
 own-read h a b (suc x) l =
-    ap raised (past (Field.product h (suc x)) (λ e. ⊎-elim (λ q. omega arith) (λ q. omega arith) (no-zero-divisors h (suc x) b l e)) (product-lt h (suc x)))
+    ap raised (past (product h (suc x)) (λ e. ⊎-elim (λ q. omega arith) (λ q. omega arith) (no-zero-divisors h (suc x) b l e)) (product-lt h (suc x)))
     ∙ rest-raised ∙ sym (getD-replicate 31 x tiny32 nan (omega arith))
   where
     past : (k : ℕ) → k ≢ 0 → k < 32 → at (set (replicate 32 zero32) 0 thirtyTwo) k ≡ zero32
@@ -110,7 +111,7 @@ sent-is : (h : ℕ) → 0 < h → h < 32 → readBack h (wht ones) ≡ sent
 unfolding readBack values
 sent-is h a b =
     ap (readBack h) ones-wht
-    ∙ values-ext 32 (λ x. raised (at (set (replicate 32 zero32) 0 thirtyTwo) (Field.product h x))) (at sent) nan (own-read h a b)
+    ∙ values-ext 32 (λ x. raised (at (set (replicate 32 zero32) 0 thirtyTwo) (product h x))) (at sent) nan (own-read h a b)
 
 check-of : (row : List ℕ) → nth row 1 ≡ 1 → checkOf 1 row 0 ≡ 0
 unfolding checkOf lowest
@@ -128,12 +129,12 @@ from-one coef row to a b l h =
     ∙ ap normalized (sent-is (nth coef 0) l h)
 
 posterior-one : (start col : List ℕ) (channel from : ℕ → Vector) → nth start 0 ≡ 0 → nth start 1 ≡ 1 → nth col 0 ≡ 0
-    → posterior start col channel from 0 ≡ normalized (product (channel 0) (from 0))
+    → posterior start col channel from 0 ≡ normalized (entryProduct (channel 0) (from 0))
 unfolding posterior gathered iter
 posterior-one start col channel from a b e =
     let u : nth start 1 - nth start 0 ≡ 1 = omega arith in
     let w : nth col (nth start 0 + 0) ≡ 0 = ap (nth col) (let z : nth start 0 + 0 ≡ 0 = omega arith in z) ∙ e in
-    ap (λ (d : ℕ). normalized (gathered d (λ j. nth col (nth start 0 + j)) from (channel 0))) u ∙ ap (λ (k : ℕ). normalized (product (channel 0) (from k))) w
+    ap (λ (d : ℕ). normalized (gathered d (λ j. nth col (nth start 0 + j)) from (channel 0))) u ∙ ap (λ (k : ℕ). normalized (entryProduct (channel 0) (from k))) w
 
 -- ---- zeros satisfy every check
 
@@ -147,7 +148,7 @@ word-zero (suc j) = refl
 sum-zero : (es : List Edge) → foldl (sumTurn zeroWord) 0 es ≡ 0
 sum-zero [] = refl
 sum-zero (e ∷ es) =
-    ap (λ (k : ℕ). foldl (sumTurn zeroWord) (bitXor 0 k) es) (ap (Field.product (e .1)) (word-zero (e .0)) ∙ product-zero (e .1)) ∙ sum-zero es
+    ap (λ (k : ℕ). foldl (sumTurn zeroWord) (bitXor 0 k) es) (ap (product (e .1)) (word-zero (e .0)) ∙ product-zero (e .1)) ∙ sum-zero es
 
 zero-satisfies : (g : Graph) → allSatisfied g zeroWord ≡ true
 zero-satisfies g = all-satisfied g zeroWord .1 (λ c h. unfold checkSum in sum-zero (check g c))
@@ -205,7 +206,7 @@ module _ (rank : ℕ) (p : Parts) (ok : NotRefused (oneEdge rank) p) (known : �
   unknown e =
       ap decision
       (posterior-one (p .start) (p .col) (s .channel) (answers t s) (graph .columns .first) (graph .columns .last) (omega (arith, graph .places .inside 0 (omega arith)))
-      ∙ ap₂ (λ (a b : Vector). normalized (product a b)) (pick-false (pastKnown positions known 0) knownZero (channel (vector flatMetrics 0)) e) message)
+      ∙ ap₂ (λ (a b : Vector). normalized (entryProduct a b)) (pick-false (pastKnown positions known 0) knownZero (channel (vector flatMetrics 0)) e) message)
       ∙ flat
 
   decided-zero : decision (posteriors t s 0) ≡ 0

@@ -14,7 +14,7 @@ use lib.ListN.{length}
 use Rattle.lists.specs.Chain.{chain}
 use Rattle.lists.specs.Entry.{nth}
 use Rattle.lists.proofs.Cases.{same-or-not, less-or-not, and-parts, holds}
-use Rattle.lists.proofs.Chain.{start-is, chain-at, chain-even}
+use Rattle.lists.proofs.Chain.{start-even, chain-at}
 use Rattle.lists.proofs.Choice.{pick-true, pick-false}
 use Rattle.lists.proofs.Lowest.{IsLowest, lowest-is}
 use Rattle.calls.specs.Refusal.{refusal, misfits, misfit}
@@ -39,7 +39,7 @@ use Rattle.words.proofs.CheckSums.{all-satisfied}
 use Rattle.rounds.specs.Tanner.{Tanner, tannerIn}
 use Rattle.rounds.specs.Round.{State}
 use Rattle.rounds.specs.Begin.{begin}
-use Rattle.rounds.specs.Rounds.{posteriorsAfter, decisions, satisfies, firstSatisfied}
+use Rattle.rounds.specs.Rounds.{posteriorsAfter, decisions, satisfies, firstSatisfied, roundsMade}
 use Rattle.rounds.proofs.FineRounds.{channels-fine, posteriorsAfter-length, posteriorsAfter-fine}
 use Rattle.rounds.proofs.KnownRounds.{known-channel, known-decided, decisions-length, decisions-at, decisions-small}
 use Rattle.decoders.specs.BeliefPropagation.{start, first, rounds, wide, tests, allTests}
@@ -67,7 +67,7 @@ not-ten ((false, k) ∷ ts) p e = not-ten ts (and-parts (notTen k) (Refusal.ofCl
 -- n vectors one after another, read back
 vectors-at : (n : ℕ) (f : ℕ → Vector) → ((v : ℕ) → length (f v) ≡ 32) → (v x : ℕ) → v < n → x < 32 → at (chain n f) (v * 32 + x) ≡ at (f v) x
 vectors-at n f long v x h l =
-    ap (λ (k : ℕ). at (chain n f) (k + x)) (sym (start-is f v ∙ chain-even 32 v f (λ i _. long i))) ∙ chain-at f n v x nan h (omega (arith, long v))
+    ap (λ (k : ℕ). at (chain n f) (k + x)) (sym (start-even 32 v f (λ i _. long i))) ∙ chain-at f n v x nan h (omega (arith, long v))
 
 module _ (c : Code) (p : Parts) (metrics : List Float) (known limit : ℕ) (word : List ℕ) (given : List Float) (work : MatrixWork) (vectors : List Float) where
   -- what the call gives
@@ -163,7 +163,7 @@ module _ (c : Code) (p : Parts) (metrics : List Float) (known limit : ℕ) (word
       hit-answer = ap (λ (k : ℕ). answered k Refused Done) hit ∙ Left.found Refused Done
 
       hit-rounds : rounds c p metrics known limit ≡ f
-      unfolding rounds
+      unfolding rounds roundsMade first
       hit-rounds = pick-true (leb f limit) f limit (le-leb f limit h)
 
       hit-count : d .answer .rounds ≡ f
@@ -190,7 +190,7 @@ module _ (c : Code) (p : Parts) (metrics : List Float) (known limit : ℕ) (word
       miss-answer = ap (λ (k : ℕ). answered k Refused Done) miss ∙ Left.refused 10 Refused Done (λ z. omega arith)
 
       miss-count : d .answer .rounds ≡ limit
-      unfolding decodeSoft rounds
+      unfolding decodeSoft rounds roundsMade first
       miss-count =
           ap (λ (k : ℕ). counted k (rounds c p metrics known limit)) miss ∙ Left.posted-new 10 0 (rounds c p metrics known limit) refl
           ∙ pick-false (leb f limit) f limit (lt-leb f limit h)

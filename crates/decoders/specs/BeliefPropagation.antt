@@ -3,10 +3,9 @@
 use Prim.Native.Nat.{ℕ, _+_, _-_}
 use mathlib.Core.Bool.{Bool, _&&_}
 use mathlib.Core.List.{List, [], _∷_, _++_}
-use lib.Dec.{leb, ltb}
+use lib.Dec.{ltb}
 use lib.Ieee.{Float}
 use Rattle.lists.specs.AnyBelow.{anyBelow}
-use Rattle.lists.specs.Choice.{pick}
 use Rattle.lists.specs.Entry.{nth}
 use Rattle.graph.specs.declared.Code.{Code}
 use Rattle.graph.specs.Parts.{Parts}
@@ -16,7 +15,7 @@ use Rattle.words.specs.Encoding.{informationOf}
 use Rattle.rounds.specs.Tanner.{tannerIn}
 use Rattle.rounds.specs.Round.{State}
 use Rattle.rounds.specs.Begin.{begin}
-use Rattle.rounds.specs.Rounds.{firstSatisfied}
+use Rattle.rounds.specs.Rounds.{firstSatisfied, roundsMade}
 
 -- "A call's rounds follow from code, metrics, known count .. and from nothing else": the state that they begin from
 unfoldable pub start : Code → Parts → List Float → ℕ → State
@@ -26,17 +25,13 @@ start c p metrics known = begin (tannerIn c p) (informationOf (graphIn c p) (p .
 unfoldable pub first : Code → Parts → List Float → ℕ → ℕ → ℕ
 first c p metrics known limit = firstSatisfied (tannerIn c p) (start c p metrics known) limit
 
--- "reports the number of the first round up to the limit that satisfies all checks, else the limit"
+-- how many rounds are made, and reported
 unfoldable pub rounds : Code → Parts → List Float → ℕ → ℕ → ℕ
-rounds c p metrics known limit = pick (leb (first c p metrics known limit) limit) (first c p metrics known limit) limit
+rounds c p metrics known limit = roundsMade (tannerIn c p) (start c p metrics known) limit
 
 -- 9: "With one round or more, a check of degree above 32"
 unfoldable pub wide : ℕ → List ℕ → Bool
 wide m row = anyBelow m (λ i. ltb 32 (nth row (i + 1) - nth row i))
-
--- the length of the work part of vectors: 32 · (256 + 512 + 512 + 32 + 256)
-abbrev pub vectorsLength : ℕ
-vectorsLength = 50176
 
 -- the tests before the rounds; `rest` says whether a part of the call's own has a wrong length
 abbrev pub tests : Code → Parts → MatrixWork → Bool → ℕ → List (Bool × ℕ)

@@ -15,7 +15,8 @@ use Rattle.vectors.specs.Float32.{zero32}
 use Rattle.rounds.specs.Tanner.{tannerIn}
 use Rattle.rounds.specs.Rounds.{posteriorsAfter, decisions}
 use Rattle.decoders.specs.declared.Decoding.{Decoding}
-use Rattle.decoders.specs.BeliefPropagation.{start, rounds, vectorsLength, allTests}
+use Rattle.rounds.specs.Work.{vectorsLength}
+use Rattle.decoders.specs.BeliefPropagation.{start, rounds, allTests}
 
 pub record DecodedSoft : Type 0 where
   pub answer : Decoding

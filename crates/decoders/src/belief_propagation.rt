@@ -6,7 +6,8 @@ ghost use Rattle.lists.specs.Entry.{nth};
 ghost use Rattle.lists.specs.Values.{values};
 ghost use Rattle.rounds.specs.Begin.{begin};
 ghost use Rattle.rounds.specs.Tanner.{lentGraph};
-ghost use Rattle.rounds.specs.Work.{size, Narrow, Ready};
+ghost use Rattle.rounds.specs.Work.{vectorsLength};
+ghost use Rattle.rounds.specs.Ready.{Narrow, Ready};
 ghost use Rattle.rounds.specs.GoneOn.{GoneOn};
 use graph::Code;
 use rounds::begin::begin;
@@ -29,7 +30,7 @@ pub fn run(
     vectors: &mut [f32],
 ) -> Ended
     requires { ⌜ (Ready (lentGraph (code .n) (code .m) (code .edges) var coef row start col)) × (0 < limit → Narrow (code .m) (now row)) ⌝ }
-    requires { ⌜ (length (now vectors) ≡ size) × (length (now metrics) ≡ code .n * 32) × (code .n ≤ length (now h)) × (code .rank ≤ code .n) ⌝ }
+    requires { ⌜ (length (now vectors) ≡ vectorsLength) × (length (now metrics) ≡ code .n * 32) × (code .n ≤ length (now h)) × (code .rank ≤ code .n) ⌝ }
     requires { ⌜ (code .n ≤ length (now info)) × ((t : ℕ) → t < code .n - code .rank → nth (now info) t < 256) ⌝ }
     ensures { λ r. ⌜ GoneOn (lentGraph (code .n) (code .m) (code .edges) (var .entry) (coef .entry) (row .entry) (start .entry) (col .entry))
         (begin (lentGraph (code .n) (code .m) (code .edges) (var .entry) (coef .entry) (row .entry) (start .entry) (col .entry))

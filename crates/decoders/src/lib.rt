@@ -7,6 +7,7 @@ ghost use Rattle.decoders.specs.Decode.{Decoded, decode};
 use calls::clear::clear_f32;
 use graph::Answer;
 use graph::Code;
+use rounds::rows::VECTORS;
 
 mod belief_propagation;
 mod out;
@@ -51,7 +52,7 @@ pub fn decode_soft(
 {
     let rest = refusals::misfit(code.n, metrics.len())
         | ((word.len() != code.n)
-            | (refusals::misfit(code.n, posteriors.len()) | (vectors.len() != 50176)));
+            | (refusals::misfit(code.n, posteriors.len()) | (vectors.len() != VECTORS)));
     let refused = refusals::refused(
         code,
         var,
@@ -119,7 +120,7 @@ pub fn decode(
         (now (metrics .entry)) known limit (now (word .entry)) (lentMatrix (h .entry) (pivots .entry)) (now (vectors .entry))) ⌝ }
 {
     let rest = refusals::misfit(code.n, metrics.len())
-        | ((word.len() != code.n) | (vectors.len() != 50176));
+        | ((word.len() != code.n) | (vectors.len() != VECTORS));
     let refused = refusals::refused(
         code,
         var,

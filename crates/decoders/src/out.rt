@@ -7,7 +7,7 @@ ghost use Rattle.lists.specs.Choice.{pick};
 ghost use Rattle.graph.specs.declared.Answer.{Answer};
 ghost use Rattle.graph.specs.declared.Answer.the-variants.{Done, Refused};
 ghost use Rattle.decoders.specs.declared.Decoding.{Decoding};
-ghost use Rattle.rounds.specs.Work.{size, posts};
+ghost use Rattle.rounds.specs.Work.{vectorsLength, posts};
 use crate::Decoding;
 use calls::clear::clear_u8;
 use graph::Answer;
@@ -17,7 +17,7 @@ use vectors::vector::load;
 use vectors::vector::store;
 
 pub fn copy_posteriors(n: usize, vectors: &[f32], posteriors: &mut [f32])
-    requires { ⌜ (n ≤ 256) × (length (now vectors) ≡ size) × (length (now posteriors) ≡ n * 32) ⌝ }
+    requires { ⌜ (n ≤ 256) × (length (now vectors) ≡ vectorsLength) × (length (now posteriors) ≡ n * 32) ⌝ }
     ensures { λ _. ⌜ now (posteriors .exit) ≡ chain n (posts (now (vectors .entry))) ⌝ }
 {
     for v in 0..n {

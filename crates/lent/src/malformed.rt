@@ -10,7 +10,7 @@ ghost use Rattle.lists.specs.Entry.{nth};
 ghost use Rattle.lists.specs.Front.{usedPast};
 ghost use Rattle.graph.specs.Parts.{lent};
 ghost use Rattle.lent.specs.Malformed.{badStarts, twice, badCoefs, foreign, disagree, unusedHold, malformed};
-ghost use Rattle.lent.specs.Sound.{Fits, Starts};
+ghost use Rattle.lent.specs.Sound.{Fits};
 use graph::Code;
 
 // Whether one of k lists starts past the next.

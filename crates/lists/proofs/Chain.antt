@@ -127,6 +127,9 @@ chain-even k (suc n) f e =
     let b = e n (le-refl (suc n)) in
     omega (arith, suc-mul n k)
 
+pub start-even {ℓ} : {A : Type ℓ} (k n : ℕ) (f : ℕ → List A) → ((i : ℕ) → i < n → length (f i) ≡ k) → startOf f n ≡ n * k
+start-even k n f e = start-is f n ∙ chain-even k n f e
+
 -- values that run on from list to list
 pub chain-values {ℓ ℓ′} : {A : Type ℓ} {B : Type ℓ′} (n : ℕ) (f : ℕ → List A) (h : ℕ → B) → chain n (λ k. values (length (f k)) (λ j. h (startOf f k + j))) ≡ values (startOf f n) h
 chain-values zero f h =

@@ -5,7 +5,7 @@ use mathlib.Core.Logic.{_≢_}
 use mathlib.Core.Bool.{Bool, true, false}
 use Prim.Native.Nat.{ℕ, _<_, _≤_}
 use borrow.Author.Tests.{eq-eqb, ne-eqb, lt-ltb, le-ltb}
-use lib.Dec.{eqb, ltb}
+use lib.Dec.{T, eqb, ltb}
 use Rattle.lists.specs.Choice.{pick}
 
 module _ {ℓ} {A : Type ℓ} where
@@ -16,6 +16,12 @@ module _ {ℓ} {A : Type ℓ} where
   pub pick-false : (test : Bool) (x y : A) → test ≡ false → pick test x y ≡ y
   unfolding pick
   pick-false test x y e = rw e
+
+  -- what holds of both outcomes
+  pub pick-either {ℓ′} : (P : A → Type ℓ′) (test : Bool) (x y : A) → (T test → P x) → P y → P (pick test x y)
+  unfolding pick
+  pick-either P true x y f g = f tt
+  pick-either P false x y f g = g
 
   -- by two numbers
 

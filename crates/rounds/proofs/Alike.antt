@@ -17,34 +17,34 @@ use Rattle.lists.proofs.Iter.{iter-start, iter-on, iter-ext}
 use Rattle.lists.proofs.Lowest.{lowest-is}
 use Rattle.lists.proofs.Rising.{rises, between}
 use Rattle.vectors.specs.Float32.{one32}
-use Rattle.vectors.specs.Vector.{Vector, product}
+use Rattle.vectors.specs.Vector.{Vector, entryProduct}
 use Rattle.vectors.specs.Wht.{wht}
 use Rattle.vectors.specs.Multiplied.{permuted}
 use Rattle.vectors.specs.Normalized.{normalized}
 use Rattle.rounds.specs.Tanner.{checkOf, degreeOf, placeOf}
 use Rattle.rounds.specs.CheckStep.{input, productOf, others, outgoing, fromCheck}
 use Rattle.rounds.specs.VariableStep.{gathered, gatheredWithout, posterior, toCheck}
-use Rattle.rounds.specs.Work.{Rows, Columns}
+use Rattle.rounds.specs.Ready.{Rows, Columns}
 
 -- ---- the check step
 
 -- a product as a loop makes it
 pub productOf-start : (f : ℕ → Vector) → replicate 32 one32 ≡ productOf 0 f
 unfolding productOf
-productOf-start f = iter-start (λ j p. product p (f j)) (replicate 32 one32)
+productOf-start f = iter-start (λ j p. entryProduct p (f j)) (replicate 32 one32)
 
-pub productOf-on : (k : ℕ) (f : ℕ → Vector) (p q : Vector) → p ≡ productOf k f → q ≡ f k → product p q ≡ productOf (k + 1) f
+pub productOf-on : (k : ℕ) (f : ℕ → Vector) (p q : Vector) → p ≡ productOf k f → q ≡ f k → entryProduct p q ≡ productOf (k + 1) f
 unfolding productOf
-productOf-on k f p q e d = ap (product p) d ∙ iter-on k (λ j p. product p (f j)) (replicate 32 one32) p e
+productOf-on k f p q e d = ap (entryProduct p) d ∙ iter-on k (λ j p. entryProduct p (f j)) (replicate 32 one32) p e
 
 pub productOf-ext : (k : ℕ) (f g : ℕ → Vector) → ((j : ℕ) → j < k → f j ≡ g j) → productOf k f ≡ productOf k g
 unfolding productOf
-productOf-ext k f g e = iter-ext k _ _ _ (λ j h p. ap (product p) (e j h))
+productOf-ext k f g e = iter-ext k _ _ _ (λ j h p. ap (entryProduct p) (e j h))
 
 pub others-ext : (lo hi : ℕ) (f g : ℕ → Vector) (e : ℕ) → lo ≤ e → e < hi → ((i : ℕ) → lo ≤ i → i < hi → f i ≡ g i) → others lo hi f e ≡ others lo hi g e
 unfolding others
 others-ext lo hi f g e a b h =
-    ap₂ product (productOf-ext (e - lo) _ _ (λ j l. h (lo + j) (omega arith) (omega arith))) (productOf-ext (hi - 1 - e) _ _ (λ j l. h (hi - 1 - j) (omega arith) (omega arith)))
+    ap₂ entryProduct (productOf-ext (e - lo) _ _ (λ j l. h (lo + j) (omega arith) (omega arith))) (productOf-ext (hi - 1 - e) _ _ (λ j l. h (hi - 1 - j) (omega arith) (omega arith)))
 
 pub input-ext : (coef : List ℕ) (to to′ : ℕ → Vector) (e : ℕ) → to e ≡ to′ e → input coef to e ≡ input coef to′ e
 unfolding input
@@ -86,12 +86,12 @@ module _ (m : ℕ) (coef row : List ℕ) (r : Rows m coef row) where
 
 gathered-ext : (d : ℕ) (place : ℕ → ℕ) (f g : ℕ → Vector) (p q : Vector) → p ≡ q → ((j : ℕ) → j < d → f (place j) ≡ g (place j)) → gathered d place f p ≡ gathered d place g q
 unfolding gathered
-gathered-ext d place f g p q e h = iter-ext d _ _ p (λ j l s. ap (product s) (h j l)) ∙ ap (iter d _) e
+gathered-ext d place f g p q e h = iter-ext d _ _ p (λ j l s. ap (entryProduct s) (h j l)) ∙ ap (iter d _) e
 
 without-ext : (e d : ℕ) (place : ℕ → ℕ) (f g : ℕ → Vector) (p q : Vector) → p ≡ q → ((j : ℕ) → j < d → f (place j) ≡ g (place j))
     → gatheredWithout e d place f p ≡ gatheredWithout e d place g q
 unfolding gatheredWithout
-without-ext e d place f g p q r h = iter-ext d _ _ p (λ j l s. ap (λ (x : Vector). pick (eqb (place j) e) s (product s x)) (h j l)) ∙ ap (iter d _) r
+without-ext e d place f g p q r h = iter-ext d _ _ p (λ j l s. ap (λ (x : Vector). pick (eqb (place j) e) s (entryProduct s x)) (h j l)) ∙ ap (iter d _) r
 
 module _ (n : ℕ) (start col : List ℕ) (k : Columns n start col) (channel channel′ : ℕ → Vector) (from by : ℕ → Vector) (v : ℕ) (h : v < n) (a : channel v ≡ channel′ v)
     (b : (e : ℕ) → e < nth start n → from e ≡ by e) where

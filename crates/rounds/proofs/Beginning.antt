@@ -17,10 +17,12 @@ use Rattle.vectors.specs.Vector.{vector}
 use Rattle.vectors.specs.Channel.{channel}
 use Rattle.vectors.specs.KnownZero.{knownZero}
 use Rattle.rounds.specs.Begin.{pastKnown, channels}
-use Rattle.rounds.specs.Work.{size, Wrote, Begun, Ends, toCheckAt, postAt}
+use Rattle.rounds.specs.Work.{vectorsLength, Wrote, toCheckAt, postAt}
+use Rattle.rounds.specs.Holds.{Begun}
+use Rattle.rounds.specs.Ready.{Ends}
 
 module _ (n edges k known : ℕ) (var info : List ℕ) (metrics : List Float) (small : n ≤ 256) (y : Ends n edges var) (few : known ≤ k) (w₀ w₁ w₂ w₃ w₄ : List Float)
-    (long : length w₀ ≡ size) (a : Wrote n (λ v. v) (λ v. channel (vector metrics v)) w₀ w₁)
+    (long : length w₀ ≡ vectorsLength) (a : Wrote n (λ v. v) (λ v. channel (vector metrics v)) w₀ w₁)
     (b : Wrote (k - known) (λ t. nth info (known + t)) (λ _. knownZero) w₁ w₂) (c : Wrote edges toCheckAt (λ e. vector w₂ (nth var e)) w₂ w₃)
     (d : Wrote n postAt (λ _. replicate 32 zero32) w₃ w₄) where
   abbrev positions : List ℕ

@@ -7,14 +7,14 @@ use mathlib.Core.List.{List}
 use native.Mathlib.Nat.{not-suc-le-zero}
 use native.Mathlib.Omega.{arith}
 use lib.Ieee.{Float}
-use lib.ListN.{length}
 use Rattle.lists.specs.Entry.{nth}
 use Rattle.lists.proofs.Cases.{less-or-not}
 use Rattle.lists.proofs.Rising.{rises}
-use Rattle.vectors.specs.Vector.{Vector, vector, product}
+use Rattle.vectors.specs.Vector.{Vector, vector, entryProduct}
 use Rattle.rounds.specs.CheckStep.{input, productOf, others, outgoing, fromCheck}
-use Rattle.rounds.specs.Checked.{messageIn, Messages, AllMessages}
-use Rattle.rounds.specs.Work.{toChecks, fromChecks, inputs, Wrote, Rows, fromCheckAt, inputAt, toCheckAt}
+use Rattle.rounds.specs.Checked.{messageIn, Messages, Made}
+use Rattle.rounds.specs.Work.{toChecks, fromChecks, inputs, Wrote, fromCheckAt, inputAt, toCheckAt}
+use Rattle.rounds.specs.Ready.{Rows}
 use Rattle.rounds.proofs.Alike.{productOf-ext, others-ext, input-ext, fromCheck-is}
 
 module _ (coef : List ℕ) (lo d : ℕ) (end : lo + d ≤ 512) (few : d ≤ 32) (w₀ w₁ w₂ w₃ : List Float)
@@ -42,8 +42,8 @@ module _ (coef : List ℕ) (lo d : ℕ) (end : lo + d ≤ 512) (few : d ≤ 32) 
       let q : lo + (d - 1 - j) ≡ e = omega arith in
       let g : lo + (e - lo) ≡ e = omega arith in
       ap (fromChecks w₃) (sym q) ∙ c .here j (omega arith)
-      ∙ ap (λ (i : ℕ). outgoing (nth coef i) (product (fromChecks w₂ i) (productOf j (λ i. inputs w₂ (d - 1 - i))))) q
-      ∙ ap (outgoing (nth coef e)) (ap₂ product (ap (fromChecks w₂) (sym g) ∙ before (e - lo) (omega arith)) (after j (omega arith)))
+      ∙ ap (λ (i : ℕ). outgoing (nth coef i) (entryProduct (fromChecks w₂ i) (productOf j (λ i. inputs w₂ (d - 1 - i))))) q
+      ∙ ap (outgoing (nth coef e)) (ap₂ entryProduct (ap (fromChecks w₂) (sym g) ∙ before (e - lo) (omega arith)) (after j (omega arith)))
 
   -- outside the messages and the inputs
   kept : (i : ℕ) → (i < 768 + lo) ⊎ (768 + (lo + d) ≤ i) → (i < 1280) → vector w₃ i ≡ vector w₀ i
@@ -71,12 +71,6 @@ module _ (coef : List ℕ) (lo d : ℕ) (end : lo + d ≤ 512) (few : d ≤ 32) 
 
 -- ---- all checks, one after another
 
--- those of the first k checks
-pub record Made (m : ℕ) (coef row : List ℕ) (w₀ w : List Float) (k : ℕ) : Type 0 where
-  pub long : length w ≡ length w₀
-  pub made : (e : ℕ) → e < nth row k → fromChecks w e ≡ fromCheck m coef row (toChecks w₀) e
-  pub state : (i : ℕ) → i < 768 → vector w i ≡ vector w₀ i
-
 module _ (m : ℕ) (coef row : List ℕ) (r : Rows m coef row) (w₀ : List Float) where
   pub made-start : Made m coef row w₀ w₀ 0
   made-start = record { long = refl; made = λ e h. absurd (not-suc-le-zero (rw (r .first) at h)); state = λ i h. refl }
@@ -101,5 +95,5 @@ module _ (m : ℕ) (coef row : List ℕ) (r : Rows m coef row) (w₀ : List Floa
           ∙ ap (outgoing (nth coef e)) (others-ext (nth row k) (nth row (k + 1)) _ _ e u l (λ i p q. input-ext coef (toChecks w) (toChecks w₀) i (a .state (toCheckAt i) (omega (arith, end, r .last)))))
           ∙ sym (fromCheck-is m coef row r (toChecks w₀) k e h u l)
 
-  pub made-end : (k : ℕ) (w : List Float) → k ≡ m → Made m coef row w₀ w k → AllMessages m coef row w₀ w
-  made-end k w e a = record { long = a .long; made = λ i h. a .made i (rw e h); state = a .state }
+  pub made-end : (k : ℕ) (w : List Float) → k ≡ m → Made m coef row w₀ w k → Made m coef row w₀ w m
+  made-end k w e a = subst (Made m coef row w₀ w) e a

@@ -9,7 +9,7 @@ use lib.ListN.{length, length-replicate, getD-replicate}
 use Rattle.lists.specs.Choice.{pick}
 use Rattle.lists.proofs.Iter.{iter-keeps}
 use Rattle.vectors.specs.Float32.{zero32}
-use Rattle.vectors.specs.Vector.{Vector, vector, product}
+use Rattle.vectors.specs.Vector.{Vector, vector, entryProduct}
 use Rattle.vectors.specs.Channel.{channel}
 use Rattle.vectors.specs.Fine.{Unsigned, Fine}
 use Rattle.vectors.specs.KnownZero.{knownZero}
@@ -19,7 +19,7 @@ use Rattle.vectors.proofs.KnownZero.{knownZero-fine}
 use Rattle.rounds.specs.Tanner.{Tanner}
 use Rattle.rounds.specs.CheckStep.{outgoing, fromCheck}
 use Rattle.rounds.specs.VariableStep.{gathered, posterior}
-use Rattle.rounds.specs.Round.{State, answers, posteriors, round}
+use Rattle.rounds.specs.Round.{State, answers, posteriors, afterRound}
 use Rattle.rounds.specs.Begin.{pastKnown, channels}
 use Rattle.rounds.specs.Rounds.{after, posteriorsAfter}
 use Rattle.rounds.proofs.Lengths.{posterior-length}
@@ -45,7 +45,7 @@ channels-fine positions metrics known v =
 gathered-unsigned : (d : ℕ) (place : ℕ → ℕ) (from : ℕ → Vector) (p : Vector) → ((e : ℕ) → Fine (from e)) → Unsigned p → Unsigned (gathered d place from p)
 unfolding gathered
 gathered-unsigned d place from p f u =
-    iter-keeps (λ _ (q : Vector). Unsigned q) d (λ j q. product q (from (place j))) p u (λ j h q w. product-unsigned q (from (place j)) w (f (place j)))
+    iter-keeps (λ _ (q : Vector). Unsigned q) d (λ j q. entryProduct q (from (place j))) p u (λ j h q w. product-unsigned q (from (place j)) w (f (place j)))
 
 pub posteriors-fine : (t : Tanner) (s : State) (v : ℕ) → Fine (s .channel v) → Fine (posteriors t s v)
 unfolding posteriors posterior
@@ -58,8 +58,8 @@ posteriors-fine t s v f =
 module _ (t : Tanner) (s : State) where
   -- rounds keep the channel vectors
   pub after-channel : (r : ℕ) → after t s r .channel ≡ s .channel
-  unfolding after round
-  after-channel r = iter-keeps (λ _ (u : State). u .channel ≡ s .channel) r (λ _ u. round t u) s refl (λ _ _ u e. e)
+  unfolding after afterRound
+  after-channel r = iter-keeps (λ _ (u : State). u .channel ≡ s .channel) r (λ _ u. afterRound t u) s refl (λ _ _ u e. e)
 
   pub posteriorsAfter-length : (r v : ℕ) → length (posteriorsAfter t s r v) ≡ 32
   unfolding posteriorsAfter posteriors

@@ -16,19 +16,19 @@ use Rattle.lists.proofs.Lowest.{lowest-on, lowest-hit, lowest-end}
 use Rattle.vectors.specs.Vector.{Vector}
 use Rattle.words.specs.Word.{allSatisfied}
 use Rattle.rounds.specs.Tanner.{Tanner, graphOf}
-use Rattle.rounds.specs.Round.{State, round, posteriors}
-use Rattle.rounds.specs.Rounds.{after, posteriorsAfter, decisions, satisfies, firstSatisfied}
-use Rattle.rounds.specs.Work.{Holds, Posted, Rounded}
+use Rattle.rounds.specs.Round.{State, afterRound, posteriors}
+use Rattle.rounds.specs.Rounds.{after, posteriorsAfter, decisions, satisfies, firstSatisfied, roundsMade}
+use Rattle.rounds.specs.Holds.{Holds, Posted, Rounded}
 use Rattle.rounds.specs.GoneOn.{GoneOn}
 
 module _ (t : Tanner) (s : State) where
   pub after-none : s ≡ after t s 0
   unfolding after
-  after-none = iter-start (λ _ u. round t u) s
+  after-none = iter-start (λ _ u. afterRound t u) s
 
-  pub after-more : (r : ℕ) → after t s (r + 1) ≡ round t (after t s r)
+  pub after-more : (r : ℕ) → after t s (r + 1) ≡ afterRound t (after t s r)
   unfolding after
-  after-more r = iter-more r (λ _ u. round t u) s
+  after-more r = iter-more r (λ _ u. afterRound t u) s
 
   pub posteriors-more : (r : ℕ) → posteriorsAfter t s (r + 1) ≡ posteriors t (after t s r)
   unfolding posteriorsAfter
@@ -73,6 +73,7 @@ module _ (t : Tanner) (s : State) where
 
     -- it does
     pub gone-first : {b : Bool} → b ≡ allSatisfied (graphOf t) hard → b ≡ true → GoneOn t s limit (record { satisfied = true; rounds = r + 1 }) w′ hard
+    unfolding roundsMade
     gone-first {b} e f =
         let q : r + 1 ≡ firstSatisfied t s limit = lowest-hit (satisfies t s) (limit + 1) (r + 1) _ (omega arith) (tested b e ∙ f) (g .ahead) in
         let h : leb (firstSatisfied t s limit) limit ≡ true = le-leb (firstSatisfied t s limit) limit (omega arith) in
@@ -80,6 +81,7 @@ module _ (t : Tanner) (s : State) where
 
   -- the limit is met
   pub gone-none : (limit r : ℕ) (w : List Float) (hard : List ℕ) → limit ≤ r → r ≤ limit → Going limit r w → GoneOn t s limit (record { satisfied = false; rounds = r }) w hard
+  unfolding roundsMade
   gone-none limit r w hard a b g =
       let q : r + 1 ≡ firstSatisfied t s limit = lowest-end (satisfies t s) (limit + 1) (r + 1) _ (omega arith) (g .ahead) in
       let h : leb (firstSatisfied t s limit) limit ≡ false = lt-leb (firstSatisfied t s limit) limit (omega arith) in

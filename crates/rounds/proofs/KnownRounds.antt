@@ -14,7 +14,7 @@ use Rattle.lists.proofs.Choice.{pick-true}
 use Rattle.lists.proofs.Iter.{iter-keeps}
 use Rattle.lists.proofs.Values.{values-length, values-at}
 use Rattle.vectors.specs.Float32.{zero32}
-use Rattle.vectors.specs.Vector.{Vector, product}
+use Rattle.vectors.specs.Vector.{Vector, entryProduct}
 use Rattle.vectors.specs.Decision.{decision}
 use Rattle.vectors.specs.Fine.{Fine}
 use Rattle.vectors.specs.KnownZero.{knownZero}
@@ -30,7 +30,7 @@ use Rattle.rounds.proofs.FineRounds.{fromCheck-fine, after-channel}
 gathered-known : (d : ℕ) (place : ℕ → ℕ) (from : ℕ → Vector) (p : Vector) → ((e : ℕ) → Fine (from e)) → Known p → Known (gathered d place from p)
 unfolding gathered
 gathered-known d place from p f k =
-    iter-keeps (λ _ (q : Vector). Known q) d (λ j q. product q (from (place j))) p k (λ j h q w. known-product q (from (place j)) w (f (place j)))
+    iter-keeps (λ _ (q : Vector). Known q) d (λ j q. entryProduct q (from (place j))) p k (λ j h q w. known-product q (from (place j)) w (f (place j)))
 
 pub known-posterior : (t : Tanner) (s : State) (v : ℕ) → s .channel v ≡ knownZero → decision (posteriors t s v) ≡ 0
 unfolding posteriors posterior

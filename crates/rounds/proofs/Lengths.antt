@@ -7,7 +7,7 @@ use lib.ListN.{length, length-replicate}
 use Rattle.lists.specs.Entry.{nth}
 use Rattle.lists.proofs.Iter.{iter-keeps}
 use Rattle.vectors.specs.Float32.{one32}
-use Rattle.vectors.specs.Vector.{Vector, product}
+use Rattle.vectors.specs.Vector.{Vector, entryProduct}
 use Rattle.vectors.specs.Multiplied.{permuted}
 use Rattle.vectors.proofs.Lengths.{product-length, normalized-length, wht-length, permuted-length}
 use Rattle.rounds.specs.CheckStep.{input, productOf, outgoing}
@@ -19,7 +19,7 @@ input-length coef to e = wht-length (permuted (nth coef e) (to e)) (permuted-len
 
 pub productOf-length : (k : ℕ) (f : ℕ → Vector) → length (productOf k f) ≡ 32
 unfolding productOf
-productOf-length k f = iter-keeps (λ _ (p : Vector). length p ≡ 32) k (λ j p. product p (f j)) _ (length-replicate 32 one32) (λ j h p l. product-length p (f j))
+productOf-length k f = iter-keeps (λ _ (p : Vector). length p ≡ 32) k (λ j p. entryProduct p (f j)) _ (length-replicate 32 one32) (λ j h p l. product-length p (f j))
 
 pub outgoing-length : (h : ℕ) (p : Vector) → length (outgoing h p) ≡ 32
 unfolding outgoing

@@ -12,12 +12,14 @@ use Rattle.vectors.specs.Vector.{vector}
 use Rattle.vectors.specs.Decision.{decision}
 use Rattle.rounds.specs.Tanner.{Tanner}
 use Rattle.rounds.specs.VariableStep.{posterior, toCheck}
-use Rattle.rounds.specs.Round.{State, answers, posteriors, round}
-use Rattle.rounds.specs.Checked.{AllMessages}
-use Rattle.rounds.specs.Work.{toChecks, fromChecks, Wrote, Holds, Rounded, Ready, toCheckAt, postAt, fromCheckAt}
+use Rattle.rounds.specs.Round.{State, answers, posteriors, afterRound}
+use Rattle.rounds.specs.Checked.{Made}
+use Rattle.rounds.specs.Work.{toChecks, fromChecks, Wrote, toCheckAt, postAt, fromCheckAt}
+use Rattle.rounds.specs.Holds.{Holds, Rounded}
+use Rattle.rounds.specs.Ready.{Ready}
 use Rattle.rounds.proofs.Alike.{fromCheck-ext, posterior-ext, toCheck-ext}
 
-module _ (t : Tanner) (y : Ready t) (s : State) (w₀ w₁ w₂ w₃ : List Float) (hard : List ℕ) (z : Holds t s w₀) (a : AllMessages (t .m) (t .coef) (t .row) w₀ w₁)
+module _ (t : Tanner) (y : Ready t) (s : State) (w₀ w₁ w₂ w₃ : List Float) (hard : List ℕ) (z : Holds t s w₀) (a : Made (t .m) (t .coef) (t .row) w₀ w₁ (t .m))
     (b : Wrote (t .n) postAt (posterior (t .start) (t .col) (vector w₁) (fromChecks w₁)) w₁ w₂)
     (d : hard ≡ values (t .n) (λ v. decision (posterior (t .start) (t .col) (vector w₁) (fromChecks w₁) v)))
     (c : Wrote (t .edges) toCheckAt (λ e. toCheck (t .start) (t .col) (vector w₂) (fromChecks w₂) (nth (t .var) e) e) w₂ w₃) where
@@ -42,15 +44,15 @@ module _ (t : Tanner) (y : Ready t) (s : State) (w₀ w₁ w₂ w₃ : List Floa
       posterior-ext (t .n) (t .start) (t .col) (y .columns) (vector w₁) (s .channel) (fromChecks w₁) (answers t s) v h (channel₁ v h)
       (λ e l. from₁ e (omega (arith, y .by-variable)))
 
-  message₃ : (e : ℕ) → e < t .edges → toChecks w₃ e ≡ round t s .messages e
-  unfolding round
+  message₃ : (e : ℕ) → e < t .edges → toChecks w₃ e ≡ afterRound t s .messages e
+  unfolding afterRound
   message₃ e h =
       c .here e h
       ∙ toCheck-ext (t .n) (t .start) (t .col) (y .columns) (vector w₂) (s .channel) (fromChecks w₂) (answers t s) (nth (t .var) e) (y .ends .vars e h)
       (channel₂ (nth (t .var) e) (y .ends .vars e h)) (λ i l. from₂ i (omega (arith, y .by-variable))) e
 
-  channel₃ : (v : ℕ) → v < t .n → vector w₃ v ≡ round t s .channel v
-  unfolding round
+  channel₃ : (v : ℕ) → v < t .n → vector w₃ v ≡ afterRound t s .channel v
+  unfolding afterRound
   channel₃ v h = c .else v (λ j l q. omega (arith, y .columns .small)) ∙ channel₂ v h
 
   pub rounded : Rounded t s w₃ hard

@@ -13,14 +13,15 @@ use Rattle.vectors.specs.Normalized.{normalized}
 use Rattle.rounds.specs.Tanner.{degreeOf, placeOf}
 use Rattle.rounds.specs.VariableStep.{gathered, gatheredWithout, posterior, toCheck}
 use Rattle.rounds.specs.Listed.{Listed}
-use Rattle.rounds.specs.Work.{size, fromChecks, Columns}
+use Rattle.rounds.specs.Work.{vectorsLength, fromChecks}
+use Rattle.rounds.specs.Ready.{Columns}
 use Rattle.rounds.proofs.Alike.{posterior-ext, toCheck-ext}
 
 module _ (n : ℕ) (start col : List ℕ) (k : Columns n start col) (w : List Float) (v : ℕ) (h : v < n) where
   end : nth start (v + 1) ≤ nth start n
   end = rises n (nth start) (k .rise) (v + 1) n (omega arith) (omega arith)
 
-  pub listed : length w ≡ size → Listed col (nth start v) (nth start (v + 1)) v w
+  pub listed : length w ≡ vectorsLength → Listed col (nth start v) (nth start (v + 1)) v w
   listed l = record {
     long = l;
     v-small = omega (arith, k .small);

@@ -6,7 +6,7 @@ use lib.ListN.{replicate}
 use Rattle.lists.specs.Entry.{nth}
 use Rattle.lists.specs.Iter.{iter}
 use Rattle.vectors.specs.Float32.{one32}
-use Rattle.vectors.specs.Vector.{Vector, product}
+use Rattle.vectors.specs.Vector.{Vector, entryProduct}
 use Rattle.vectors.specs.Wht.{wht}
 use Rattle.vectors.specs.Multiplied.{permuted, readBack}
 use Rattle.vectors.specs.Normalized.{normalized}
@@ -18,11 +18,11 @@ input coef to e = wht (permuted (nth coef e) (to e))
 
 -- f 0, f 1, .., f (k - 1) multiplied, in this order
 unfoldable pub productOf : ℕ → (ℕ → Vector) → Vector
-productOf k f = iter k (λ j p. product p (f j)) (replicate 32 one32)
+productOf k f = iter k (λ j p. entryProduct p (f j)) (replicate 32 one32)
 
 -- "multiplies the others' prefix then suffix": the check's vectors stand at places lo to hi - 1, and e is one of them
 unfoldable pub others : ℕ → ℕ → (ℕ → Vector) → ℕ → Vector
-others lo hi f e = product (productOf (e - lo) (λ j. f (lo + j))) (productOf (hi - 1 - e) (λ j. f (hi - 1 - j)))
+others lo hi f e = entryProduct (productOf (e - lo) (λ j. f (lo + j))) (productOf (hi - 1 - e) (λ j. f (hi - 1 - j)))
 
 -- "transforms again, raises below 1e-30 to 1e-30, and normalises": by the coefficient h
 unfoldable pub outgoing : ℕ → Vector → Vector

@@ -5,6 +5,8 @@ pub mod Round
 pub mod Begin
 pub mod Rounds
 pub mod Work
+pub mod Holds
+pub mod Ready
 pub mod Listed
 pub mod Checked
 pub mod GoneOn

@@ -6,10 +6,10 @@ use mathlib.Core.List.{List}
 use lib.Ieee.{Float}
 use lib.ListN.{length}
 use Rattle.lists.specs.Entry.{nth}
-use Rattle.rounds.specs.Work.{size}
+use Rattle.rounds.specs.Work.{vectorsLength}
 
 pub record Listed (col : List ℕ) (lo hi v : ℕ) (w : List Float) : Type 0 where
-  pub long : length w ≡ size
+  pub long : length w ≡ vectorsLength
   pub v-small : v < 256
   pub rise : lo ≤ hi
   pub end : hi ≤ length col

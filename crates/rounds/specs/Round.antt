@@ -20,8 +20,8 @@ unfoldable pub posteriors : Tanner → State → ℕ → Vector
 posteriors t s v = posterior (t .start) (t .col) (s .channel) (answers t s) v
 
 -- "each round .. takes what the last one left"
-unfoldable pub round : Tanner → State → State
-round t s = record {
+unfoldable pub afterRound : Tanner → State → State
+afterRound t s = record {
   channel = s .channel;
   messages = λ e. toCheck (t .start) (t .col) (s .channel) (answers t s) (nth (t .var) e) e;
 }

@@ -3,7 +3,9 @@
 use Prim.Native.Nat.{ℕ, zero, suc}
 use mathlib.Core.Bool.{Bool}
 use mathlib.Core.List.{List}
+use lib.Dec.{leb}
 use lib.ListN.{replicate}
+use Rattle.lists.specs.Choice.{pick}
 use Rattle.lists.specs.Iter.{iter}
 use Rattle.lists.specs.Lowest.{lowest}
 use Rattle.lists.specs.Values.{values}
@@ -12,11 +14,11 @@ use Rattle.vectors.specs.Vector.{Vector}
 use Rattle.vectors.specs.Decision.{decision}
 use Rattle.words.specs.Word.{allSatisfied}
 use Rattle.rounds.specs.Tanner.{Tanner, graphOf}
-use Rattle.rounds.specs.Round.{State, posteriors, round}
+use Rattle.rounds.specs.Round.{State, posteriors, afterRound}
 
 -- the state after r rounds
 unfoldable pub after : Tanner → State → ℕ → State
-after t s r = iter r (λ _ u. round t u) s
+after t s r = iter r (λ _ u. afterRound t u) s
 
 -- the posteriors of round r; "0.0 where no round was made"
 unfoldable pub posteriorsAfter : Tanner → State → ℕ → ℕ → Vector
@@ -34,3 +36,7 @@ satisfies t s r = allSatisfied (graphOf t) (decisions t s r)
 -- "the number of the first round up to the limit that satisfies all checks"; limit + 1 where there is none. Rounds are numbered from 1
 unfoldable pub firstSatisfied : Tanner → State → ℕ → ℕ
 firstSatisfied t s limit = lowest (satisfies t s) limit 1
+
+-- "the number of the first round up to the limit that satisfies all checks, else the limit"
+unfoldable pub roundsMade : Tanner → State → ℕ → ℕ
+roundsMade t s limit = pick (leb (firstSatisfied t s limit) limit) (firstSatisfied t s limit) limit

@@ -9,7 +9,9 @@ ghost use Rattle.vectors.specs.Vector.{vector};
 ghost use Rattle.vectors.specs.Channel.{channel};
 ghost use Rattle.vectors.specs.KnownZero.{knownZero};
 ghost use Rattle.rounds.specs.Begin.{channels};
-ghost use Rattle.rounds.specs.Work.{size, Wrote, Ends, Begun, toCheckAt, postAt};
+ghost use Rattle.rounds.specs.Work.{vectorsLength, Wrote, toCheckAt, postAt};
+ghost use Rattle.rounds.specs.Holds.{Begun};
+ghost use Rattle.rounds.specs.Ready.{Ends};
 use crate::rows::POSTERIORS;
 use crate::rows::TO_CHECKS;
 use vectors::channel::channel;
@@ -18,7 +20,7 @@ use vectors::vector::store;
 
 // The channel vectors of n variables, by their metrics.
 fn begin_channel(n: usize, metrics: &[f32], w: &mut [f32])
-    requires { ⌜ (n ≤ 256) × (length (now metrics) ≡ n * 32) × (length (now w) ≡ size) ⌝ }
+    requires { ⌜ (n ≤ 256) × (length (now metrics) ≡ n * 32) × (length (now w) ≡ vectorsLength) ⌝ }
     ensures { λ _. ⌜ Wrote n (λ v. v) (λ v. channel (vector (now (metrics .entry)) v)) (now (w .entry)) (now (w .exit)) ⌝ }
 {
     for v in 0..n {
@@ -30,7 +32,7 @@ fn begin_channel(n: usize, metrics: &[f32], w: &mut [f32])
 
 // Known zeros, over what the metrics gave: the information positions from number `known` on, of k.
 fn begin_zeros(k: usize, known: usize, info: &[u16], w: &mut [f32])
-    requires { ⌜ (known ≤ k) × (k ≤ length (now info)) × (length (now w) ≡ size) ⌝ }
+    requires { ⌜ (known ≤ k) × (k ≤ length (now info)) × (length (now w) ≡ vectorsLength) ⌝ }
     requires { ⌜ ((t : ℕ) → t < k → nth (now info) t < 256) ⌝ }
     ensures { λ _. ⌜ Wrote (k - known) (λ t. nth (now (info .entry)) (known + t)) (λ _. knownZero) (now (w .entry)) (now (w .exit)) ⌝ }
 {
@@ -43,7 +45,7 @@ fn begin_zeros(k: usize, known: usize, info: &[u16], w: &mut [f32])
 
 // The first messages to checks are the channel vectors as they are.
 fn begin_messages(n: usize, edges: usize, var: &[u16], w: &mut [f32])
-    requires { ⌜ (n ≤ 256) × (Ends n edges (now var)) × (length (now w) ≡ size) ⌝ }
+    requires { ⌜ (n ≤ 256) × (Ends n edges (now var)) × (length (now w) ≡ vectorsLength) ⌝ }
     ensures { λ _. ⌜ Wrote edges toCheckAt (λ e. vector (now (w .entry)) (nth (now (var .entry)) e)) (now (w .entry)) (now (w .exit)) ⌝ }
 {
     for e in 0..edges {
@@ -54,7 +56,7 @@ fn begin_messages(n: usize, edges: usize, var: &[u16], w: &mut [f32])
 
 // No round is made yet.
 fn begin_posteriors(n: usize, w: &mut [f32])
-    requires { ⌜ (n ≤ 256) × (length (now w) ≡ size) ⌝ }
+    requires { ⌜ (n ≤ 256) × (length (now w) ≡ vectorsLength) ⌝ }
     ensures { λ _. ⌜ Wrote n postAt (λ _. replicate 32 zero32) (now (w .entry)) (now (w .exit)) ⌝ }
 {
     let zero = [0.0f32; 32];
@@ -73,7 +75,7 @@ pub fn begin(
     metrics: &[f32],
     w: &mut [f32],
 )
-    requires { ⌜ (n ≤ 256) × (length (now metrics) ≡ n * 32) × (length (now w) ≡ size) ⌝ }
+    requires { ⌜ (n ≤ 256) × (length (now metrics) ≡ n * 32) × (length (now w) ≡ vectorsLength) ⌝ }
     requires { ⌜ (Ends n edges (now var)) × (known ≤ k) × (k ≤ length (now info)) ⌝ }
     requires { ⌜ ((t : ℕ) → t < k → nth (now info) t < 256) ⌝ }
     ensures { λ _. ⌜ Begun n edges (now (var .entry)) (channels (values k (nth (now (info .entry)))) (now (metrics .entry)) known) (now (w .exit)) ⌝ }

@@ -5,7 +5,7 @@ ghost use lib.ListN.{length};
 ghost use Rattle.vectors.specs.Products.{Products};
 ghost use Rattle.rounds.specs.CheckStep.{input, productOf, outgoing};
 ghost use Rattle.rounds.specs.Checked.{Checked, Messages, messageIn};
-ghost use Rattle.rounds.specs.Work.{size, toChecks, inputs, Wrote, fromCheckAt, inputAt};
+ghost use Rattle.rounds.specs.Work.{vectorsLength, toChecks, inputs, Wrote, fromCheckAt, inputAt};
 use crate::rows::FROM_CHECKS;
 use crate::rows::INPUTS;
 use crate::rows::TO_CHECKS;
@@ -34,7 +34,7 @@ fn transform_inputs(table: &[u8], coef: &[u8], lo: usize, d: usize, w: &mut [f32
 
 // The products of the inputs before each edge.
 fn multiply_before(lo: usize, d: usize, w: &mut [f32])
-    requires { ⌜ (lo + d ≤ 512) × (d ≤ 32) × (length (now w) ≡ size) ⌝ }
+    requires { ⌜ (lo + d ≤ 512) × (d ≤ 32) × (length (now w) ≡ vectorsLength) ⌝ }
     ensures { λ _. ⌜ Wrote d (λ j. fromCheckAt (lo + j)) (λ j. productOf j (inputs (now (w .entry)))) (now (w .entry)) (now (w .exit)) ⌝ }
 {
     let mut before = [1.0f32; 32];

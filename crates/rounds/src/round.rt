@@ -10,8 +10,10 @@ ghost use Rattle.vectors.specs.Products.{Products};
 ghost use Rattle.rounds.specs.Tanner.{lentGraph};
 ghost use Rattle.rounds.specs.Round.{State};
 ghost use Rattle.rounds.specs.VariableStep.{posterior, toCheck};
-ghost use Rattle.rounds.specs.Checked.{AllMessages};
-ghost use Rattle.rounds.specs.Work.{size, fromChecks, Wrote, Holds, Rows, Narrow, Columns, Ends, Ready, Rounded, toCheckAt, postAt};
+ghost use Rattle.rounds.specs.Checked.{Made};
+ghost use Rattle.rounds.specs.Work.{vectorsLength, fromChecks, Wrote, toCheckAt, postAt};
+ghost use Rattle.rounds.specs.Holds.{Holds, Rounded};
+ghost use Rattle.rounds.specs.Ready.{Rows, Narrow, Columns, Ends, Ready};
 use crate::check_step::check;
 use crate::rows::POSTERIORS;
 use crate::rows::TO_CHECKS;
@@ -24,8 +26,8 @@ use vectors::vector::store;
 // The messages from all checks.
 fn check_all(table: &[u8], m: usize, coef: &[u8], row: &[u16], w: &mut [f32])
     requires { ⌜ Products (now table) ⌝ }
-    requires { ⌜ (Rows m (now coef) (now row)) × (Narrow m (now row)) × (length (now w) ≡ size) ⌝ }
-    ensures { λ _. ⌜ AllMessages m (now (coef .entry)) (now (row .entry)) (now (w .entry)) (now (w .exit)) ⌝ }
+    requires { ⌜ (Rows m (now coef) (now row)) × (Narrow m (now row)) × (length (now w) ≡ vectorsLength) ⌝ }
+    ensures { λ _. ⌜ Made m (now (coef .entry)) (now (row .entry)) (now (w .entry)) (now (w .exit)) m ⌝ }
 {
     for c in 0..m {
         let lo = row[c] as usize;
@@ -36,7 +38,7 @@ fn check_all(table: &[u8], m: usize, coef: &[u8], row: &[u16], w: &mut [f32])
 
 // All posteriors and decisions.
 fn decide_all(n: usize, start: &[u16], col: &[u16], w: &mut [f32], hard: &mut [u8])
-    requires { ⌜ (Columns n (now start) (now col)) × (length (now w) ≡ size) × (length (now hard) ≡ n) ⌝ }
+    requires { ⌜ (Columns n (now start) (now col)) × (length (now w) ≡ vectorsLength) × (length (now hard) ≡ n) ⌝ }
     ensures { λ _. ⌜ Wrote n postAt (posterior (now (start .entry)) (now (col .entry)) (vector (now (w .entry))) (fromChecks (now (w .entry)))) (now (w .entry)) (now (w .exit)) ⌝ }
     ensures { λ _. ⌜ now (hard .exit) ≡ values n (λ v. decision (posterior (now (start .entry)) (now (col .entry)) (vector (now (w .entry))) (fromChecks (now (w .entry))) v)) ⌝ }
 {
@@ -50,7 +52,7 @@ fn decide_all(n: usize, start: &[u16], col: &[u16], w: &mut [f32], hard: &mut [u
 
 // All messages to checks.
 fn send_all(n: usize, edges: usize, var: &[u16], start: &[u16], col: &[u16], w: &mut [f32])
-    requires { ⌜ (Columns n (now start) (now col)) × (Ends n edges (now var)) × (length (now w) ≡ size) ⌝ }
+    requires { ⌜ (Columns n (now start) (now col)) × (Ends n edges (now var)) × (length (now w) ≡ vectorsLength) ⌝ }
     ensures { λ _. ⌜ Wrote edges toCheckAt (λ e. toCheck (now (start .entry)) (now (col .entry)) (vector (now (w .entry))) (fromChecks (now (w .entry))) (nth (now (var .entry)) e) e) (now (w .entry)) (now (w .exit)) ⌝ }
 {
     for e in 0..edges {
@@ -76,7 +78,7 @@ pub fn round(
 )
     requires { ⌜ (Ready (lentGraph n m edges var coef row start col)) × (Narrow m (now row)) ⌝ }
     requires { ⌜ (Products (now table)) × (length (now hard) ≡ n) ⌝ }
-    requires { ⌜ length (now w) ≡ size ⌝ }
+    requires { ⌜ length (now w) ≡ vectorsLength ⌝ }
     ensures { λ _. ⌜ ((s : State) → Holds (lentGraph n m edges (var .entry) (coef .entry) (row .entry) (start .entry) (col .entry)) s (now (w .entry))
         → Rounded (lentGraph n m edges (var .entry) (coef .entry) (row .entry) (start .entry) (col .entry)) s (now (w .exit)) (now (hard .exit))) ⌝ }
 {

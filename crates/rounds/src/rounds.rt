@@ -5,7 +5,9 @@ ghost use lib.ListN.{length};
 ghost use Rattle.rounds.specs.Tanner.{lentGraph};
 ghost use Rattle.rounds.specs.Round.{State};
 ghost use Rattle.rounds.specs.Rounds.{posteriorsAfter};
-ghost use Rattle.rounds.specs.Work.{size, Holds, Posted, Narrow, Ready};
+ghost use Rattle.rounds.specs.Work.{vectorsLength};
+ghost use Rattle.rounds.specs.Holds.{Holds, Posted};
+ghost use Rattle.rounds.specs.Ready.{Narrow, Ready};
 ghost use Rattle.rounds.specs.GoneOn.{GoneOn};
 use crate::round::round;
 use field::tables::EXP;
@@ -34,7 +36,7 @@ pub fn go_on(
     hard: &mut [u8],
 ) -> Ended
     requires { ⌜ (Ready (lentGraph n m edges var coef row start col)) × (0 < limit → Narrow m (now row)) ⌝ }
-    requires { ⌜ (length (now w) ≡ size) × (length (now hard) ≡ n) ⌝ }
+    requires { ⌜ (length (now w) ≡ vectorsLength) × (length (now hard) ≡ n) ⌝ }
     ensures { λ r. ⌜ ((s : State) → Holds (lentGraph n m edges (var .entry) (coef .entry) (row .entry) (start .entry) (col .entry)) s (now (w .entry))
         → Posted (lentGraph n m edges (var .entry) (coef .entry) (row .entry) (start .entry) (col .entry))
         (posteriorsAfter (lentGraph n m edges (var .entry) (coef .entry) (row .entry) (start .entry) (col .entry)) s 0) (now (w .entry))

@@ -16,7 +16,7 @@ use Rattle.lists.proofs.Cases.{less-or-not, either, holds, is-true, and-parts}
 use Rattle.lists.proofs.Iter.{iter-keeps}
 use Rattle.vectors.specs.Float32.{zero32, one32, tiny32, greatest32}
 use Rattle.vectors.specs.Vector.{Vector, at}
-use Rattle.vectors.specs.Normalized.{sum}
+use Rattle.vectors.specs.Normalized.{entrySum}
 use Rattle.vectors.specs.Fine.{unsigned, nonneg, fine, Unsigned}
 
 pub nonneg-unsigned : (x : Float) → T (nonneg x) → T (unsigned x)
@@ -197,8 +197,8 @@ terms-on p n s u r =
           ⊎-elim (λ e. rw e (t .1)) (λ g. term-trans (at p x) s (add binary32 s (at p n)) (r .1 x g) (t .0)) (eq-or-lt-of-le (le-of-suc-le-suc l)),
     )
 
-pub sum-terms : (p : Vector) → Unsigned p → (x : ℕ) → x < 32 → Term (at p x) (sum p)
-unfolding sum
+pub sum-terms : (p : Vector) → Unsigned p → (x : ℕ) → x < 32 → Term (at p x) (entrySum p)
+unfolding entrySum
 sum-terms p u =
     iter-keeps (Terms p) 32 (λ x s. add binary32 s (at p x)) zero32 (unfold ofBits in tt, λ x l. absurd (not-suc-le-zero l))
     (λ n l s r. terms-on p n s (u n l) r) .1

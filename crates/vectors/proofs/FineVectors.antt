@@ -2,38 +2,33 @@
 -- Assumes nothing.
 use Prim.Native.Nat.{ℕ, _<_}
 use mathlib.Core.Path.{_≡_}
-use mathlib.Core.Bool.{Bool, true, false, _&&_}
+use mathlib.Core.Bool.{_&&_}
 use native.Mathlib.Omega.{arith}
 use lib.Dec.{T}
 use lib.ListN.{replicate, getD-replicate}
 use lib.Ieee.{Float, nan, binary32, mul, div, lt, le, ofBits}
 use Rattle.lists.specs.Choice.{pick}
+use Rattle.lists.proofs.Choice.{pick-either}
 use Rattle.lists.proofs.Cases.{and-parts}
 use Rattle.lists.proofs.Iter.{iter-keeps}
 use Rattle.lists.proofs.Values.{values-at}
-use Rattle.field.specs.Field as Field
+use Rattle.field.specs.Field.{product}
 use Rattle.vectors.specs.Float32.{one32, uniform32, tiny32, greatest32}
-use Rattle.vectors.specs.Vector.{Vector, at, product}
-use Rattle.vectors.specs.Normalized.{sum, scaled, normalized}
+use Rattle.vectors.specs.Vector.{Vector, at, entryProduct}
+use Rattle.vectors.specs.Normalized.{entrySum, scaled, normalized}
 use Rattle.vectors.specs.Multiplied.{raised, readBack}
 use Rattle.vectors.specs.Decision.{decision}
 use Rattle.vectors.specs.Fine.{nonneg, fine, Unsigned, Fine}
 use Rattle.vectors.proofs.FineFloats.{nonneg-unsigned, fine-nonneg, mul-unsigned, sum-terms, above-nonneg, tested-fine, scaled-fine}
 
--- what holds of both of a choice's outcomes
-pick-either {ℓ} : {A : Type ℓ} (P : A → Type 0) (test : Bool) (x y : A) → (T test → P x) → P y → P (pick test x y)
-unfolding pick
-pick-either P true x y f g = f tt
-pick-either P false x y f g = g
-
 pub fine-unsigned : (p : Vector) → Fine p → Unsigned p
 fine-unsigned p f x l = nonneg-unsigned (at p x) (fine-nonneg (at p x) (f x l))
 
-pub product-at : (p q : Vector) (x : ℕ) → x < 32 → at (product p q) x ≡ mul binary32 (at p x) (at q x)
-unfolding product
+pub product-at : (p q : Vector) (x : ℕ) → x < 32 → at (entryProduct p q) x ≡ mul binary32 (at p x) (at q x)
+unfolding entryProduct
 product-at p q x l = values-at (λ x. mul binary32 (at p x) (at q x)) 32 x nan l
 
-pub product-unsigned : (p q : Vector) → Unsigned p → Fine q → Unsigned (product p q)
+pub product-unsigned : (p q : Vector) → Unsigned p → Fine q → Unsigned (entryProduct p q)
 product-unsigned p q u f x l = rw (product-at p q x l) (mul-unsigned (at p x) (at q x) (u x l) (f x l))
 
 -- ---- normalising
@@ -46,11 +41,11 @@ pub uniform-at : (x : ℕ) → x < 32 → at (replicate 32 uniform32) x ≡ unif
 uniform-at x l = getD-replicate 32 x uniform32 nan l
 
 -- what holds of both outcomes; the sum is finite where it is divided by
-pub normalized-either : (P : Vector → Type 0) (p : Vector) → (T (fine (sum p)) → T (lt tiny32 (sum p)) → P (scaled p (div binary32 one32 (sum p))))
+pub normalized-either : (P : Vector → Type 0) (p : Vector) → (T (fine (entrySum p)) → T (lt tiny32 (entrySum p)) → P (scaled p (div binary32 one32 (entrySum p))))
     → P (replicate 32 uniform32) → P (normalized p)
 unfolding normalized
 normalized-either P p f g =
-    let s = sum p in
+    let s = entrySum p in
     pick-either P (lt tiny32 s && le s greatest32) (scaled p (div binary32 one32 s)) (replicate 32 uniform32)
     (λ t. let w = and-parts (lt tiny32 s) (le s greatest32) t in f (tested-fine s (w .0) (w .1)) (w .0))
     g
@@ -62,7 +57,7 @@ uniform-fine = tt
 pub normalized-unsigned : (p : Vector) → Unsigned p → Fine (normalized p)
 normalized-unsigned p u =
     normalized-either Fine p
-    (λ f h x l. rw (scaled-at p (div binary32 one32 (sum p)) x l) (scaled-fine (at p x) (sum p) (sum-terms p u x l) f h))
+    (λ f h x l. rw (scaled-at p (div binary32 one32 (entrySum p)) x l) (scaled-fine (at p x) (entrySum p) (sum-terms p u x l) f h))
     (λ x l. rw (uniform-at x l) uniform-fine)
 
 -- ---- what a check sends
@@ -76,8 +71,8 @@ pub readBack-fine : (h : ℕ) (p : Vector) → Fine (normalized (readBack h p))
 readBack-fine h p =
     normalized-unsigned (readBack h p)
     (λ x l.
-    let y = at p (Field.product h x) in
-    unfold readBack in rw (values-at (λ x. raised (at p (Field.product h x))) 32 x nan l) (nonneg-unsigned (raised y) (raised-nonneg y)))
+    let y = at p (product h x) in
+    unfold readBack in rw (values-at (λ x. raised (at p (product h x))) 32 x nan l) (nonneg-unsigned (raised y) (raised-nonneg y)))
 
 -- ---- the decision
 

@@ -16,8 +16,8 @@ use Rattle.lists.specs.Choice.{pick}
 use Rattle.lists.proofs.Choice.{pick-false}
 use Rattle.lists.proofs.Iter.{iter-keeps}
 use Rattle.vectors.specs.Float32.{one32, uniform32, zero32}
-use Rattle.vectors.specs.Vector.{Vector, at, product}
-use Rattle.vectors.specs.Normalized.{sum, scaled, normalized}
+use Rattle.vectors.specs.Vector.{Vector, at, entryProduct}
+use Rattle.vectors.specs.Normalized.{entrySum, scaled, normalized}
 use Rattle.vectors.specs.Decision.{decision}
 use Rattle.vectors.specs.Fine.{unsigned, fine, Fine}
 use Rattle.vectors.specs.KnownZero.{knownZero}
@@ -64,7 +64,7 @@ mul-nil x f =
     ∙ round-same binary32 false (0 * num x) (1 * den x) 0 1 (mul-pos (omega arith) (den-pos x)) (omega arith) (omega arith)
     ∙ round-nil
 
-pub known-product : (p q : Vector) → Known p → Fine q → Known (product p q)
+pub known-product : (p q : Vector) → Known p → Fine q → Known (entryProduct p q)
 known-product p q c f = record {
   first = rw (product-at p q 0 (omega arith)) (mul-unsigned (at p 0) (at q 0) (c .first) (f 0 (omega arith)));
   rest = λ x h l. product-at p q x l ∙ (rw (c .rest x h l) (mul-nil (at q x) (f x l)));
@@ -111,5 +111,5 @@ pub known-decision : (p : Vector) → Known p → decision (normalized p) ≡ 0
 known-decision p c =
     first-decided (normalized p)
     (normalized-either FirstBest p
-    (λ f h. scaled-best p (div binary32 one32 (sum p)) c (factor-fine (sum p) f h))
+    (λ f h. scaled-best p (div binary32 one32 (entrySum p)) c (factor-fine (entrySum p) f h))
     (λ x l. rw (uniform-at 0 (omega arith), uniform-at x l) (lt-same uniform32)))

@@ -2,37 +2,31 @@
 -- Assumes nothing.
 use Prim.Native.Nat.{ℕ}
 use mathlib.Core.Path.{_≡_}
-use mathlib.Core.Bool.{Bool, true, false}
 use lib.Ieee.{Float, binary32, mul, div}
 use lib.ListN.{length, set, replicate, length-set, length-replicate}
-use Rattle.lists.specs.Choice.{pick}
+use Rattle.lists.proofs.Choice.{pick-either}
 use Rattle.lists.proofs.Iter.{iter-keeps}
 use Rattle.lists.proofs.Values.{values-length}
-use Rattle.field.specs.Field as Field
+use Rattle.field.specs.Field.{product}
 use Rattle.vectors.specs.Float32.{zero32, one32, uniform32}
-use Rattle.vectors.specs.Vector.{Vector, at, product}
-use Rattle.vectors.specs.Normalized.{sum, scaled, normalized}
+use Rattle.vectors.specs.Vector.{Vector, at, entryProduct}
+use Rattle.vectors.specs.Normalized.{entrySum, scaled, normalized}
 use Rattle.vectors.specs.Wht.{butterflies, wht}
 use Rattle.vectors.specs.Multiplied.{permuted, raised, readBack}
 use Rattle.vectors.specs.Channel.{channel}
 
-pub product-length : (p q : Vector) → length (product p q) ≡ 32
-unfolding product
+pub product-length : (p q : Vector) → length (entryProduct p q) ≡ 32
+unfolding entryProduct
 product-length p q = values-length (λ x. mul binary32 (at p x) (at q x)) 32
 
 pub scaled-length : (p : Vector) (k : Float) → length (scaled p k) ≡ 32
 unfolding scaled
 scaled-length p k = values-length (λ x. mul binary32 (at p x) k) 32
 
--- one of two lists of 32
-pick-length : (test : Bool) (a b : Vector) → length a ≡ 32 → length b ≡ 32 → length (pick test a b) ≡ 32
-unfolding pick
-pick-length true a b d e = d
-pick-length false a b d e = e
-
 pub normalized-length : (p : Vector) → length (normalized p) ≡ 32
 unfolding normalized
-normalized-length p = pick-length _ (scaled p (div binary32 one32 (sum p))) (replicate 32 uniform32) (scaled-length p _) (length-replicate 32 uniform32)
+normalized-length p =
+    pick-either (λ (q : Vector). length q ≡ 32) _ (scaled p (div binary32 one32 (entrySum p))) (replicate 32 uniform32) (λ _. scaled-length p _) (length-replicate 32 uniform32)
 
 butterflies-length : (h : ℕ) (a : Vector) → length a ≡ 32 → length (butterflies h a) ≡ 32
 unfolding butterflies
@@ -44,11 +38,11 @@ wht-length a e = butterflies-length 16 _ (butterflies-length 8 _ (butterflies-le
 
 pub permuted-length : (h : ℕ) (p : Vector) → length (permuted h p) ≡ 32
 unfolding permuted
-permuted-length h p = iter-keeps (λ _ (t : Vector). length t ≡ 32) 32 (λ x t. set t (Field.product h x) (at p x)) _ (length-replicate 32 zero32) (λ x l t d. simp length-set d)
+permuted-length h p = iter-keeps (λ _ (t : Vector). length t ≡ 32) 32 (λ x t. set t (product h x) (at p x)) _ (length-replicate 32 zero32) (λ x l t d. simp length-set d)
 
 pub readBack-length : (h : ℕ) (p : Vector) → length (readBack h p) ≡ 32
 unfolding readBack
-readBack-length h p = values-length (λ x. raised (at p (Field.product h x))) 32
+readBack-length h p = values-length (λ x. raised (at p (product h x))) 32
 
 pub channel-length : (m : Vector) → length (channel m) ≡ 32
 unfolding channel

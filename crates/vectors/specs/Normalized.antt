@@ -10,8 +10,8 @@ use Rattle.vectors.specs.Float32.{zero32, one32, uniform32, tiny32, grea
 use Rattle.vectors.specs.Vector.{Vector, at}
 
 -- the sum, from the first entry on
-unfoldable pub sum : Vector → Float
-sum p = iter 32 (λ x s. add binary32 s (at p x)) zero32
+unfoldable pub entrySum : Vector → Float
+entrySum p = iter 32 (λ x s. add binary32 s (at p x)) zero32
 
 unfoldable pub scaled : Vector → Float → Vector
 scaled p k = values 32 (λ x. mul binary32 (at p x) k)
@@ -19,5 +19,5 @@ scaled p k = values 32 (λ x. mul binary32 (at p x) k)
 -- a sum above 1e-30 is finite where the greatest f32 is not below it
 unfoldable pub normalized : Vector → Vector
 normalized p =
-    let s = sum p in
+    let s = entrySum p in
     pick (lt tiny32 s && le s greatest32) (scaled p (div binary32 one32 s)) (replicate 32 uniform32)

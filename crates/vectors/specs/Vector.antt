@@ -23,5 +23,5 @@ unfoldable pub stored : List Float → ℕ → Vector → List Float
 stored part i p = laidFrom (i * 32) p part
 
 -- entry by entry
-unfoldable pub product : Vector → Vector → Vector
-product p q = values 32 (λ x. mul binary32 (at p x) (at q x))
+unfoldable pub entryProduct : Vector → Vector → Vector
+entryProduct p q = values 32 (λ x. mul binary32 (at p x) (at q x))

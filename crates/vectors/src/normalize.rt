@@ -1,9 +1,9 @@
 // Normalising a vector.
 ghost use mathlib.Core.Path.{_≡_};
-ghost use Rattle.vectors.specs.Normalized.{sum, scaled, normalized};
+ghost use Rattle.vectors.specs.Normalized.{entrySum, scaled, normalized};
 
 fn sum_of(p: &[f32; 32]) -> f32
-    ensures { λ r. ⌜ r ≡ sum (now (p .entry)) ⌝ }
+    ensures { λ r. ⌜ r ≡ entrySum (now (p .entry)) ⌝ }
 {
     let mut s = 0.0f32;
     for x in 0..32usize {

@@ -2,7 +2,7 @@
 ghost use mathlib.Core.Path.{_≡_};
 ghost use Prim.Native.Nat.{_+_, _*_, _≤_};
 ghost use lib.ListN.{length};
-ghost use Rattle.vectors.specs.Vector.{vector, stored, product};
+ghost use Rattle.vectors.specs.Vector.{vector, stored, entryProduct};
 
 // The vector numbered i.
 pub fn load(part: &[f32], i: usize) -> [f32; 32]
@@ -34,7 +34,7 @@ fn lay(part: &mut [f32], i: usize, p: [f32; 32])
 }
 
 pub fn multiply(p: [f32; 32], q: &[f32; 32]) -> [f32; 32]
-    ensures { λ r. ⌜ r ≡ product p (now (q .entry)) ⌝ }
+    ensures { λ r. ⌜ r ≡ entryProduct p (now (q .entry)) ⌝ }
 {
     let mut r = p;
     for x in 0..32usize {

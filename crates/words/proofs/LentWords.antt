@@ -8,7 +8,7 @@ use lib.ListN.{length, replicate, length-map, List·getD-eq-default}
 use Rattle.lists.specs.Chain.{startOf}
 use Rattle.lists.specs.Entry.{nth}
 use Rattle.lists.specs.Values.{values}
-use Rattle.lists.proofs.Chain.{start-is, start-part, chain-at, chain-even}
+use Rattle.lists.proofs.Chain.{start-is, start-even, start-part, chain-at}
 use Rattle.lists.proofs.Values.{values-at, values-ext, values-own, map-entries}
 use Rattle.field.specs.Field.{product}
 use Rattle.field.specs.FieldSum.{fieldSum}
@@ -73,7 +73,7 @@ module _ (c : Code) (p : Parts) (w : Sound c p) where
   factors-length i = length-map (infos (c .n) (reducedIn c p)) (reducedIn c p .matrix i) ∙ sound-infos c p w
 
   factors-start : (i : ℕ) → startOf factors i ≡ i * count
-  factors-start i = start-is factors i ∙ chain-even count i factors (λ j h. factors-length j)
+  factors-start i = start-even count i factors (λ j h. factors-length j)
 
   pub factor-at : (i t : ℕ) → i < c .rank → t < count → nth (p .a) (i * count + t) ≡ reducedIn c p .matrix i (nth positions t)
   unfolding table

@@ -7,7 +7,7 @@ use borrow.Author.Needs.{needs}
 use denote.Ref.{now}
 use lib.ListN.{length}
 use Rattle.lists.specs.Entry.{nth}
-use Rattle.vectors.specs.Vector.{Vector, product}
+use Rattle.vectors.specs.Vector.{Vector, entryProduct}
 use Rattle.rounds.specs.CheckStep.{productOf, outgoing}
 use Rattle.rounds.specs.Checked.{messageIn}
 use Rattle.rounds.specs.Work.{fromChecks, inputs, Wrote, fromCheckAt, inputAt}
@@ -38,12 +38,12 @@ loop-again c =
     let f : ℕ → Vector = λ j. inputs given (s .args .d - 1 - j) in
     let e = s .args .lo + (s .args .d - 1 - l .j) in
     let old = b .before .before .load .ensures ∙ l .inv .3 .else (fromCheckAt e) (λ j h r. omega arith) in
-    let others = b .multiply .ensures ∙ ap₂ product old (l .inv .2) in
+    let others = b .multiply .ensures ∙ ap₂ entryProduct old (l .inv .2) in
     let made = c .before .before .before .before .before .before .before .before .before .message .ensures ∙ ap (outgoing (nth (now (s .args .coef)) e)) others in
     let w =
     wrote-on (λ j. fromCheckAt (s .args .lo + (s .args .d - 1 - j))) (messageIn (now (s .args .coef)) (s .args .lo) (s .args .d) given) given (l .j) (l .w) _ _ (l .inv .3)
     (c .before .before .before .before .before .before .store .ensures) made
-    (outgoing-length (nth (now (s .args .coef)) e) (product (fromChecks given e) (productOf (l .j) f))) (omega (arith, q .end, q .long)) (λ j h r. absurd (omega arith)) in
+    (outgoing-length (nth (now (s .args .coef)) e) (entryProduct (fromChecks given e) (productOf (l .j) f))) (omega (arith, q .end, q .long)) (λ j h r. absurd (omega arith)) in
     let read = c .before .before .load2 .ensures ∙ w .else (inputAt (s .args .d - 1 - l .j)) (λ j h r. omega (arith, q .end)) in
     (omega arith, w .long, c .multiply2 .ensures ∙ productOf-on (l .j) f _ _ (l .inv .2) read, w)
 

@@ -7,7 +7,8 @@ use denote.Ref.{now}
 use lib.ListN.{length}
 use Rattle.lists.specs.Entry.{nth}
 use Rattle.lists.proofs.Rising.{rises}
-use Rattle.rounds.proofs.CheckMessages.{Made, made-start, made-on, made-end}
+use Rattle.rounds.specs.Checked.{Made}
+use Rattle.rounds.proofs.CheckMessages.{made-start, made-on, made-end}
 use Rattle.rounds.proofs.round.check_all.Statement.{statement}
 use Rattle.rounds.proofs.round.check_all.Tie as tie
 

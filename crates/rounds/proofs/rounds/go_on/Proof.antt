@@ -18,7 +18,8 @@ use Rattle.words.specs.Word.{allSatisfied}
 use Rattle.rounds.specs.Tanner.{Tanner, lentGraph}
 use Rattle.rounds.specs.Round.{State}
 use Rattle.rounds.specs.Rounds.{posteriorsAfter}
-use Rattle.rounds.specs.Work.{size, Holds, Posted}
+use Rattle.rounds.specs.Work.{vectorsLength}
+use Rattle.rounds.specs.Holds.{Holds, Posted}
 use Rattle.rounds.proofs.GoingOn.{Going, going-start, going-on, gone-first, gone-none}
 use Rattle.rounds.proofs.rounds.go_on.Statement.{statement}
 use Rattle.rounds.proofs.rounds.go_on.Tie as tie
@@ -29,7 +30,7 @@ On t limit r w₀ w = (s : State) → Holds t s w₀ → Posted t (posteriorsAft
 
 abbrev Inv-loop : tie.InvT-loop
 Inv-loop limit n m edges var coef row start col w₀ hard₀ exp log table r₀ w hard r =
-    (r ≤ limit) × (length w ≡ size) × (length hard ≡ n) × Tabled exp log × Products table
+    (r ≤ limit) × (length w ≡ vectorsLength) × (length hard ≡ n) × Tabled exp log × Products table
     × On (record { n = n; m = m; edges = edges; var = var; coef = coef; row = row; start = start; col = col }) limit r w₀ w
 
 abbrev μ-loop : tie.MeasureT-loop

@@ -10,14 +10,14 @@ use lib.Ieee.{Float}
 use Rattle.lists.specs.Entry.{nth}
 use Rattle.lists.specs.Iter.{iter}
 use Rattle.lists.proofs.Iter.{iter-start, iter-on, iter-end}
-use Rattle.vectors.specs.Vector.{Vector, vector, product}
+use Rattle.vectors.specs.Vector.{Vector, vector, entryProduct}
 use Rattle.rounds.specs.Work.{fromChecks}
 use Rattle.rounds.specs.VariableStep.{gathered}
 use Rattle.rounds.proofs.variable_step.gather.Statement.{statement}
 use Rattle.rounds.proofs.variable_step.gather.Tie as tie
 
 abbrev turn : List ℕ → ℕ → List Float → ℕ → Vector → Vector
-turn col lo w j q = product q (fromChecks w (nth col (lo + j)))
+turn col lo w j q = entryProduct q (fromChecks w (nth col (lo + j)))
 
 pub gather-spec : {M : Type 1} → statement M
 unfolding gathered
@@ -42,5 +42,5 @@ gather-spec =
     let l = c .before .before .before .before .before .loop in
     let a = c .before .before .before .before .before .before .before .before .before .args in
     let on = iter-on (l .j) (turn (now (a .col)) (a .lo) (now (a .w))) _ (l .p) (l .inv .1) in
-    (omega arith, c .multiply .ensures ∙ ap (product (l .p)) (c .before .before .load2 .ensures) ∙ on))
+    (omega arith, c .multiply .ensures ∙ ap (entryProduct (l .p)) (c .before .before .load2 .ensures) ∙ on))
     (λ c. iter-end _ _ _ _ _ (omega arith) (c .before .loop .inv .1)))

@@ -14,14 +14,14 @@ use Rattle.lists.specs.Entry.{nth}
 use Rattle.lists.specs.Iter.{iter}
 use Rattle.lists.proofs.Choice.{pick-same, pick-other}
 use Rattle.lists.proofs.Iter.{iter-start, iter-on, iter-end}
-use Rattle.vectors.specs.Vector.{Vector, vector, product}
+use Rattle.vectors.specs.Vector.{Vector, vector, entryProduct}
 use Rattle.rounds.specs.Work.{fromChecks}
 use Rattle.rounds.specs.VariableStep.{gatheredWithout}
 use Rattle.rounds.proofs.variable_step.gather_without.Statement.{statement}
 use Rattle.rounds.proofs.variable_step.gather_without.Tie as tie
 
 abbrev turn : ℕ → List ℕ → ℕ → List Float → ℕ → Vector → Vector
-turn e col lo w j q = pick (eqb (nth col (lo + j)) e) q (product q (fromChecks w (nth col (lo + j))))
+turn e col lo w j q = pick (eqb (nth col (lo + j)) e) q (entryProduct q (fromChecks w (nth col (lo + j))))
 
 abbrev Inv-loop : tie.InvT-loop
 Inv-loop e col lo hi v w p₀ j₀ j-end p j = (j ≤ hi - lo) × (p ≡ iter j (turn e col lo w) (vector w v))
@@ -36,7 +36,7 @@ loop-again c =
     let place = nth (now (a .col)) (a .lo + l .j) in
     let picked : c .if1 .p ≡ turn (a .e) (now (a .col)) (a .lo) (now (a .w)) (l .j) (l .p) =
     ⊎-elim
-    (λ w. w .4 ∙ w .3 .ensures ∙ ap (product (l .p)) (w .1 .ensures) ∙ sym (pick-other place (a .e) _ _ (w .0 .taken)))
+    (λ w. w .4 ∙ w .3 .ensures ∙ ap (entryProduct (l .p)) (w .1 .ensures) ∙ sym (pick-other place (a .e) _ _ (w .0 .taken)))
     (λ w. w .1 ∙ sym (pick-same place (a .e) _ _ (w .0 .left)))
     (c .if1 .came) in
     (omega arith, picked ∙ iter-on (l .j) _ _ (l .p) (l .inv .1))

@@ -8,12 +8,12 @@ use lib.Ieee.{binary32, add}
 use Rattle.lists.specs.Iter.{iter}
 use Rattle.lists.proofs.Iter.{iter-start, iter-on, iter-end}
 use Rattle.vectors.specs.Vector.{at}
-use Rattle.vectors.specs.Normalized.{sum}
+use Rattle.vectors.specs.Normalized.{entrySum}
 use Rattle.vectors.proofs.normalize.sum_of.Statement.{statement}
 use Rattle.vectors.proofs.normalize.sum_of.Tie as tie
 
 pub sum-of-spec : {M : Type 1} → statement M
-unfolding sum
+unfolding entrySum
 sum-of-spec =
     tie.close
     (tie.spec

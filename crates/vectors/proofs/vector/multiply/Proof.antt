@@ -8,12 +8,12 @@ use lib.Ieee.{binary32, mul}
 use Rattle.lists.specs.Laid.{laid}
 use Rattle.lists.specs.Values.{values}
 use Rattle.lists.proofs.Laid.{fill-start, fill-on, fill-end, fill-all}
-use Rattle.vectors.specs.Vector.{at, product}
+use Rattle.vectors.specs.Vector.{at, entryProduct}
 use Rattle.vectors.proofs.vector.multiply.Statement.{statement}
 use Rattle.vectors.proofs.vector.multiply.Tie as tie
 
 pub multiply-spec : {M : Type 1} → statement M
-unfolding product
+unfolding entryProduct
 multiply-spec =
     tie.close
     (tie.spec
