@@ -243,6 +243,24 @@ uint8_t hazgunek_decode(size_t n, size_t m, size_t edges, size_t rank, const uin
                         uint8_t *word, size_t word_len,
                         uint8_t *h, size_t h_len, uint16_t *pivots, size_t pivots_len, float *vectors, size_t vectors_len);
 
+/* List decoding around posteriors, which are given, 32 finite floats of either sign for each symbol: the information symbols at their
+ * likeliest values, the `width` least sure of them also at the second likeliest, every combination encoded and scored by the sum of its
+ * symbols' metrics, of any floats. word = the best of these words; it is always a word of the code, and may have other symbols than 0
+ * past a known count. The call tests the lent code as the calls on words do, and is turned down by 2, 3, 6 and 7 as those are. 8: width
+ * is above 16, or a posterior is not finite. A number leaves word as it was. *rounds = 0 whatever the number. A width of 16 tries 65,536
+ * words.
+ *
+ *     number = hazgunek_list_decode(HAZGUNEK_CODE(n, m, &code), metrics, 32 * n, posteriors, 32 * n, 10, &rounds, word, n,
+ *                                   HAZGUNEK_WORK(&work)); */
+uint8_t hazgunek_list_decode(size_t n, size_t m, size_t edges, size_t rank, const uint16_t *var, size_t var_len,
+                             const uint8_t *coef, size_t coef_len, const uint16_t *row, size_t row_len,
+                             const uint16_t *start, size_t start_len, const uint16_t *col, size_t col_len,
+                             const uint16_t *order, size_t order_len, const uint16_t *parity, size_t parity_len,
+                             const uint16_t *info, size_t info_len, const uint8_t *a, size_t a_len,
+                             const float *metrics, size_t metrics_len, const float *posteriors, size_t posteriors_len,
+                             size_t width, uint32_t *rounds, uint8_t *word, size_t word_len,
+                             uint8_t *h, size_t h_len, uint16_t *pivots, size_t pivots_len);
+
 #ifdef __cplusplus
 }
 #endif

@@ -115,6 +115,12 @@ isNumber k = not (eqb k 0)
 pub second : (a b : List (Bool × ℕ)) → T (ofClass isNumber a) → refusal a ≡ 0 → refusal (a ++ b) ≡ refusal b
 second a b p e = later isNumber refl a b p e
 
+-- where none of all the tests holds, none of either list does
+pub both-pass : (a b : List (Bool × ℕ)) → T (ofClass isNumber a) → refusal (a ++ b) ≡ 0 → (refusal a ≡ 0) × (refusal b ≡ 0)
+both-pass a b p e =
+    let z = ⊎-elim (λ z. z) (λ n. absurd (n (sym (first a b n) ∙ e))) (same-or-not (refusal a) 0) in
+    (z, sym (second a b p z) ∙ e)
+
 -- ---- the classes
 
 -- a number that touches nothing is none after rounds

@@ -5,5 +5,7 @@ pub mod Running
 pub mod Turned
 pub mod DecodingEnds
 pub mod ReadyCode
+pub mod ListRunning
 pub mod Theorem
+pub mod ListTheorem
 pub mod Starred

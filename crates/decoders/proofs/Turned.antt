@@ -2,7 +2,7 @@
 -- Assumes nothing.
 use Prim.Native.Nat.{ℕ, _<_, _≤_}
 use mathlib.Core.Path.{_≡_, refl, sym, ap, ap₂, _∙_}
-use mathlib.Core.Logic.{_≢_, ⊎-elim}
+use mathlib.Core.Logic.{_≢_}
 use mathlib.Core.Bool.{Bool, true, false, not, _&&_, and-false}
 use mathlib.Core.List.{List, [], _∷_}
 use native.Mathlib.Omega.{arith}
@@ -11,11 +11,10 @@ use lib.Dec.{eqb, ltb}
 use lib.Ieee.{Float}
 use lib.ListN.{length, replicate, length-replicate}
 use Rattle.lists.specs.Choice.{pick}
-use Rattle.lists.proofs.Cases.{same-or-not}
 use Rattle.lists.proofs.Choice.{pick-same, pick-other}
 use Rattle.calls.specs.Refusal.{refusal}
 use Rattle.calls.specs.Parts.{touchesNothing, afterRounds, worked}
-use Rattle.calls.proofs.Refusal.{pass, first, second, of-class}
+use Rattle.calls.proofs.Refusal.{pass, first, second, both-pass, of-class}
 use Rattle.calls.proofs.Parts.{untouched, zeroed}
 use Rattle.graph.specs.declared.Code.{Code}
 use Rattle.graph.specs.Parts.{Parts}
@@ -76,19 +75,23 @@ before-rounds c p w rest limit {k} e z =
 -- ---- where none of them holds
 
 module _ (c : Code) (p : Parts) (w : MatrixWork) (rest : Bool) (limit : ℕ) (e : refusal (tests c p w rest limit) ≡ 0) where
-  code-passes : refusal (refusals c p w rest) ≡ 0
-  code-passes = ⊎-elim (λ z. z) (λ n. absurd (n (sym (first (refusals c p w rest) (own c p w rest limit refl) n) ∙ e))) (same-or-not (refusal (refusals c p w rest)) 0)
+  pass-both : (refusal (refusals c p w rest) ≡ 0) × (refusal (own c p w rest limit refl) ≡ 0)
+  pass-both = both-pass (refusals c p w rest) (own c p w rest limit refl) tt e
 
   pub tests-code : Sound c p × (rest ≡ false)
-  tests-code = passed c p w rest code-passes
+  tests-code = passed c p w rest (pass-both .0)
 
   pub tests-width : (ltb 0 limit && wide (c .m) (p .row)) ≡ false
-  tests-width = pass _ 8 [] (sym (second (refusals c p w rest) (own c p w rest limit refl) tt code-passes) ∙ e) .0
+  tests-width = pass _ 8 [] (pass-both .1) .0
 
   pub tests-work : (length (w .h) ≡ 65536) × (length (w .pivots) ≡ 256)
-  tests-work = work-fits c p w rest code-passes
+  tests-work = work-fits c p w rest (pass-both .0)
 
--- the work parts of the code, which it leaves cleared, with its h cleared again
+-- the work parts of the code, which it leaves cleared
+pub left-blank : (w v : MatrixWork) (n : ℕ) → v ≡ matrixLeft 0 w → length (w .h) ≡ n → v .h ≡ replicate n 0
+left-blank w v n e l = ap (λ (u : MatrixWork). u .h) e ∙ zeroed 0 0 (w .h) refl ∙ ap (λ (i : ℕ). replicate i 0) l
+
+-- and with its h cleared again
 pub left-cleared : (w v : MatrixWork) → v ≡ matrixLeft 0 w → {h : List ℕ} {n : ℕ} → h ≡ replicate n 0 → n ≡ length (v .h)
     → _≡_ {A = MatrixWork} (record { h = h; pivots = v .pivots }) (matrixLeft 0 w)
 unfolding worked

@@ -1,3 +1,4 @@
 pub mod BeliefPropagation
 pub mod DecodeSoft
 pub mod Decode
+pub mod ListDecode

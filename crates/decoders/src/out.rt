@@ -10,6 +10,7 @@ ghost use Rattle.decoders.specs.declared.Decoding.{Decoding};
 ghost use Rattle.rounds.specs.Work.{vectorsLength, posts};
 use crate::Decoding;
 use calls::clear::clear_u8;
+use calls::copy::copy_u8;
 use graph::Answer;
 use rounds::rounds::Ended;
 use rounds::rows::POSTERIORS;
@@ -26,16 +27,6 @@ pub fn copy_posteriors(n: usize, vectors: &[f32], posteriors: &mut [f32])
     }
 }
 
-// The decisions, which stand in front.
-fn copy_word(decisions: &[u8], word: &mut [u8])
-    requires { ⌜ length (now word) ≤ length (now decisions) ⌝ }
-    ensures { λ _. ⌜ now (word .exit) ≡ take (length (now (word .entry))) (now (decisions .entry)) ⌝ }
-{
-    for v in 0..word.len() {
-        word[v] = decisions[v];
-    }
-}
-
 // What a decoding answers after its rounds: the word is written where one of them satisfied all checks. The decisions in front of h go.
 pub fn finish(ended: Ended, h: &mut [u8], word: &mut [u8]) -> Decoding
     requires { ⌜ length (now word) ≤ length (now h) ⌝ }
@@ -44,7 +35,7 @@ pub fn finish(ended: Ended, h: &mut [u8], word: &mut [u8]) -> Decoding
     ensures { λ _. ⌜ now (h .exit) ≡ replicate (length (now (h .entry))) 0 ⌝ }
 {
     if ended.satisfied {
-        copy_word(h, word);
+        copy_u8(h, word);
         clear_u8(h);
         return Decoding {
             answer: Answer::Done,

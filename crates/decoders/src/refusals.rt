@@ -12,6 +12,7 @@ ghost use Rattle.graph.specs.Parts.{lent};
 ghost use Rattle.lent.specs.LentCode.{lentMatrix, matrixLeft};
 ghost use Rattle.vectors.specs.Float32.{zero32};
 ghost use Rattle.decoders.specs.BeliefPropagation.{wide, tests};
+ghost use Rattle.decoders.specs.ListDecode.{notFinite};
 use calls::clear::clear_f32;
 use graph::Code;
 
@@ -29,6 +30,18 @@ pub fn too_wide(m: usize, row: &[u16]) -> bool
 {
     for c in 0..m {
         if row[c + 1] - row[c] > 32 {
+            return true;
+        }
+    }
+    false
+}
+
+// Whether an entry is not finite: only the difference of a finite number with itself is 0.
+pub fn not_finite(part: &[f32]) -> bool
+    ensures { λ r. ⌜ r ≡ notFinite (now (part .entry)) ⌝ }
+{
+    for i in 0..part.len() {
+        if part[i] - part[i] != 0.0 {
             return true;
         }
     }

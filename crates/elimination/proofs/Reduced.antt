@@ -17,8 +17,8 @@ use Rattle.lists.specs.Values.{values}
 use Rattle.lists.proofs.AnyBelow.{anyBelow-ext}
 use Rattle.lists.proofs.Chain.{chain-ext}
 use Rattle.lists.proofs.Keep.{keepBelow-ext}
-use Rattle.lists.proofs.Laid.{laid-at}
-use Rattle.lists.proofs.Values.{values-at, values-length, values-ext, map-entries}
+use Rattle.lists.proofs.Laid.{laid-at, fill-at}
+use Rattle.lists.proofs.Values.{values-ext, map-entries}
 use Rattle.elimination.specs.Graph.{Graph, checkCount}
 use Rattle.elimination.specs.Matrix.{matrixOf}
 use Rattle.elimination.specs.Elimination.{State, eliminated, reduced, infos, table}
@@ -55,9 +55,7 @@ held-eliminated n m var coef row order up small inside =
 module _ {m n r : ℕ} {s : State} {part h parity : List ℕ} (w : Stands m n s part h parity r) where
   -- the pivots that stand in the part
   pivot-at : (t : ℕ) → t < r → nth parity t ≡ s .pivot t
-  pivot-at t l =
-      ap (λ (x : List ℕ). nth x t) (w .pivots)
-      ∙ laid-at (values r (s .pivot)) part t 0 (omega (arith, values-length (s .pivot) r)) ∙ values-at (s .pivot) r t 0 l
+  pivot-at t l = fill-at (s .pivot) r part parity t 0 l (w .pivots)
 
   among-same : (j : ℕ) → among r (nth parity) j ≡ among (s .rank) (s .pivot) j
   unfolding among

@@ -3,7 +3,7 @@
 use Prim.Native.Nat.{ℕ, zero, suc, _+_, _<_}
 use mathlib.Core.Path.{_≡_, refl, ap, _∙_}
 use native.Mathlib.Numerals.{add-one}
-use native.Mathlib.Nat.{le-refl}
+use native.Mathlib.Nat.{le-refl, zero-add, suc-add}
 use native.Mathlib.Omega.{arith}
 use Rattle.lists.specs.Iter.{iter}
 
@@ -47,3 +47,9 @@ iter-agree P zero f g s p keeps same = refl
 iter-agree P (suc n) f g s p keeps same =
     same n (le-refl (suc n)) (iter n f s) (iter-keeps (λ _. P) n f s p (λ k h t q. keeps k (omega arith) t q))
     ∙ ap (g n) (iter-agree P n f g s p (λ k h t q. keeps k (omega arith) t q) (λ k h t q. same k (omega arith) t q))
+
+-- the turns after the first m
+pub iter-later {ℓ} : {S : Type ℓ} (n m : ℕ) (f : ℕ → S → S) (s : S) → iter (n + m) f s ≡ iter n (λ i. f (i + m)) (iter m f s)
+unfolding iter
+iter-later zero m f s = ap (λ (k : ℕ). iter k f s) (zero-add m)
+iter-later (suc n) m f s = ap (λ (k : ℕ). iter k f s) (suc-add n m) ∙ ap (f (n + m)) (iter-later n m f s)

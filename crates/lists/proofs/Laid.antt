@@ -7,10 +7,10 @@ use native.Mathlib.Nat.{add-zero, zero-add}
 use native.Mathlib.Numerals.{add-one}
 use native.Mathlib.Omega.{arith}
 use lib.ListN.{length, getD, set, take, drop, length-append, length-take, length-drop, List·getD-append, take-append-drop}
-use lib.Seq.{drop-cons, drop-length, drop-set-lt, set-at, take-at, drop-append-add, drop-drop}
+use lib.Seq.{drop-cons, drop-length, drop-set-lt, set-at, take-at, drop-append-add, drop-drop, length-take-le, getD-take, getD-drop, getD-append-add}
 use Rattle.lists.specs.Laid.{laid, laidFrom}
 use Rattle.lists.specs.Values.{values}
-use Rattle.lists.proofs.Values.{values-length, values-more}
+use Rattle.lists.proofs.Values.{values-length, values-at, values-more}
 
 module _ {ℓ} {A : Type ℓ} where
   pub laid-start : (p : List A) → p ≡ laid [] p
@@ -63,6 +63,13 @@ module _ {ℓ} {A : Type ℓ} where
   pub fill-all : (f : ℕ → A) (n : ℕ) (p : List A) → n ≡ length p → laid (values n f) p ≡ values n f
   fill-all f n p e = laid-all (values n f) p (values-length f n ∙ e)
 
+  -- an entry, and the front
+  pub fill-at : (f : ℕ → A) (n : ℕ) (p q : List A) (k : ℕ) (d : A) → k < n → q ≡ laid (values n f) p → getD q k d ≡ f k
+  fill-at f n p q k d h e = ap (λ (l : List A). getD l k d) e ∙ laid-at (values n f) p k d (omega (arith, values-length f n)) ∙ values-at f n k d h
+
+  pub fill-front : (f : ℕ → A) (n : ℕ) (p q : List A) → q ≡ laid (values n f) p → take n q ≡ values n f
+  fill-front f n p q e = ap (take n) e ∙ laid-take (values n f) p n (sym (values-length f n))
+
   -- a loop that begins at 1, with the first entry written before it
   pub fill-first : (f : ℕ → A) (x : A) (p : List A) → x ≡ f 0 → 0 < length p → set p 0 x ≡ laid (values (0 + 1) f) (set p 0 x)
   fill-first f x p e h =
@@ -96,6 +103,29 @@ module _ {ℓ} {A : Type ℓ} where
   from-length at l p h = simp (length-append, length-take, length-drop) (omega arith)
 
   -- behind a list that is laid
+  -- its entries: those before it, its own, and those after it
+
+  pub from-before : (at k : ℕ) (l p : List A) (d : A) → k < at → at ≤ length p → getD (laidFrom at l p) k d ≡ getD p k d
+  unfolding laidFrom
+  from-before at k l p d h b =
+      List·getD-append (take at p) (l ++ drop (at + length l) p) d k (omega (arith, length-take-le at p b)) ∙ getD-take at p k d h
+
+  behind : (at k : ℕ) (l p : List A) (d : A) → at ≤ length p → getD (laidFrom at l p) (at + k) d ≡ getD (l ++ drop (at + length l) p) k d
+  unfolding laidFrom
+  behind at k l p d b =
+      ap (λ (n : ℕ). getD (laidFrom at l p) (n + k) d) (sym (length-take-le at p b)) ∙ getD-append-add (take at p) (l ++ drop (at + length l) p) k d
+
+  pub from-own : (at k : ℕ) (l p : List A) (d : A) → k < length l → at ≤ length p → getD (laidFrom at l p) (at + k) d ≡ getD l k d
+  from-own at k l p d h b = behind at k l p d b ∙ List·getD-append l (drop (at + length l) p) d k h
+
+  pub from-after : (at k : ℕ) (l p : List A) (d : A) → at + length l ≤ k → at ≤ length p → getD (laidFrom at l p) k d ≡ getD p k d
+  from-after at k l p d h b =
+      let m = k - (at + length l) in
+      let e : at + (length l + m) ≡ k = omega arith in
+      let f : at + length l + m ≡ k = omega arith in
+      ap (λ (j : ℕ). getD (laidFrom at l p) j d) (sym e) ∙ behind at (length l + m) l p d b
+      ∙ getD-append-add l (drop (at + length l) p) m d ∙ getD-drop (at + length l) p m d ∙ ap (λ (j : ℕ). getD p j d) f
+
   pub from-laid : (at : ℕ) (l s p : List A) → at ≡ length l → laidFrom at s (laid l p) ≡ laid (l ++ s) p
   unfolding laid laidFrom
   from-laid at l s p e =

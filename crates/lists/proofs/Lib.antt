@@ -16,6 +16,8 @@ pub mod Front
 pub mod Tally
 pub mod Among
 pub mod EachOnce
+pub mod Placed
+pub mod InOrder
 pub mod Rising
 pub mod Laid
 pub mod Kept

@@ -15,7 +15,7 @@ use Rattle.lists.specs.Total.{total}
 use Rattle.lists.specs.Values.{values}
 use Rattle.lists.proofs.Cases.{same-or-not, true-or-false}
 use Rattle.lists.proofs.Choice.{pick-true, pick-false}
-use Rattle.lists.proofs.Keep.{keep-append, keep-one, keepBelow-yes, keepBelow-no, keepBelow-ext, keepBelow-empty, keepBelow-length}
+use Rattle.lists.proofs.Keep.{keep-append, keep-one, keepBelow-yes, keepBelow-no, keepBelow-ext, keepBelow-empty, keepBelow-length, keepBelow-up}
 use Rattle.lists.proofs.Total.{total-none, total-suc}
 use Rattle.lists.proofs.Values.{values-none, values-more}
 
@@ -90,6 +90,33 @@ module _ (test : ℕ → Bool) where
       (λ t. let a = tally-yes m t in ⊎-elim (λ q. ap test q ∙ t) (λ l. tally-full m j (omega arith) l) (eq-or-lt-of-le (le-of-suc-le-suc h)))
       (λ t. let a = ap length (keepBelow-no test m t) in absurd (omega (arith, keepBelow-length test m)))
       (true-or-false (test m))
+
+-- a test that passes whatever another one does, and one number more
+module _ (f g : ℕ → Bool) where
+  pub tally-most : (n : ℕ) → ((j : ℕ) → j < n → f j ≡ true → g j ≡ true) → length (keepBelow f n) ≤ length (keepBelow g n)
+  tally-most zero e = let a = keepBelow-empty f in omega arith
+  tally-most (suc n) e =
+      let i = tally-most n (λ j l. e j (omega arith)) in
+      ⊎-elim
+      (λ t. omega (arith, tally-yes f n t, tally-yes g n (e n (omega arith) t)))
+      (λ t. let a = ap length (keepBelow-no f n t) in omega (arith, keepBelow-up g (suc n) n (omega arith)))
+      (true-or-false (f n))
+
+  pub tally-fewer : (n p : ℕ) → p < n → f p ≡ false → g p ≡ true → ((j : ℕ) → j < n → f j ≡ true → g j ≡ true) → length (keepBelow f n) < length (keepBelow g n)
+  tally-fewer zero p h new there e = absurd (not-suc-le-zero h)
+  tally-fewer (suc n) p h new there e =
+      ⊎-elim
+      (λ q.
+      let a = ap length (keepBelow-no f n (ap f (sym q) ∙ new)) in
+      let b = tally-yes g n (ap g (sym q) ∙ there) in
+      omega (arith, tally-most n (λ j l. e j (omega arith))))
+      (λ l.
+      let i = tally-fewer n p l new there (λ j l. e j (omega arith)) in
+      ⊎-elim
+      (λ t. omega (arith, tally-yes f n t, tally-yes g n (e n (omega arith) t)))
+      (λ t. let a = ap length (keepBelow-no f n t) in omega (arith, keepBelow-up g (suc n) n (omega arith)))
+      (true-or-false (f n)))
+      (eq-or-lt-of-le (le-of-suc-le-suc h))
 
 -- ---- of values, and of a window
 

@@ -9,6 +9,8 @@ pub mod Values
 pub mod Each
 pub mod Changed
 pub mod Keep
+pub mod Placed
+pub mod InOrder
 pub mod Front
 pub mod EachOnce
 pub mod Laid

@@ -8,9 +8,10 @@ use native.Mathlib.Omega.{arith}
 use native.Mathlib.Nat.{add-comm, mul-comm, mul-assoc, mul-left-comm, mul-right-comm, mul-one, one-mul, mul-pos, eq-or-lt-of-le, le-of-lt, le-of-eq, lt-of-le-of-lt, lt-of-not-le, le-of-suc-le-suc, not-suc-le-zero, mul-le-mul, mul-le-mul-left, mul-le-mul-right, mul-lt-mul-of-pos-right, lt-of-mul-lt-mul-right}
 use lib.Dec.{T, eqb, eqb→eq, eqb·suc-zero, ltb, ltb→lt}
 use lib.IntN.{ℤ}
-use lib.Ieee.{Float, nan, inf, fin, binary32, up, down, units, odd, round, add, mul, div, lt, le, ofBits, low}
+use lib.Ieee.{Float, nan, inf, fin, binary32, up, down, units, odd, round, add, mul, div, lt, le, isNan, ofBits, low}
 use lib.Ieee.Fits.{round-is}
 use lib.Ieee.Order.{round-mono}
+use lib.Ieee.Scale.{finite}
 use lib.Ieee.Positive.{first-pos, num, den, den-pos}
 use Rattle.lists.proofs.Cases.{less-or-not, either, holds, is-true, and-parts}
 use Rattle.lists.proofs.Iter.{iter-keeps}
@@ -29,6 +30,17 @@ fine-nonneg nan p = p
 fine-nonneg (inf s) p = absurd p
 fine-nonneg (fin s m e) p = p
 
+pub finite-fine : (x : Float) → T (finite x) → T (nonneg x) → T (fine x)
+finite-fine nan f p = absurd f
+finite-fine (inf s) f p = absurd f
+finite-fine (fin s m e) f p = p
+
+pub nonneg-number : (x : Float) → T (nonneg x) → isNan x ≡ false
+unfolding isNan
+nonneg-number nan p = absurd p
+nonneg-number (inf s) p = refl
+nonneg-number (fin s m e) p = refl
+
 pub le-fine : (x y : Float) → T (unsigned x) → T (fine y) → T (le x y) → T (fine x)
 unfolding le
 le-fine nan y p q h = h
@@ -43,21 +55,24 @@ le-fine (fin s m e) y p q h = p
 abbrev rounded : ℕ → ℕ → Float
 rounded a c = round binary32 false a c
 
-odd-unsigned : (d q k l : ℕ) → T (unsigned (odd d false q k l))
+odd-nonneg : (d q k l : ℕ) → T (nonneg (odd d false q k l))
 unfolding odd
-odd-unsigned d zero k l = tt
-odd-unsigned d (suc q) k l = tt
+odd-nonneg d zero k l = tt
+odd-nonneg d (suc q) k l = tt
 
-units-unsigned : (q k : ℕ) → T (unsigned (units binary32 false q k))
+units-nonneg : (q k : ℕ) → T (nonneg (units binary32 false q k))
 unfolding units
-units-unsigned q k = go (ltb (q * 2 ^ k) (2 ^ (low binary32 + 128)))
+units-nonneg q k = go (ltb (q * 2 ^ k) (2 ^ (low binary32 + 128)))
   where
-    go : (b : Bool) → T (unsigned (cond b (odd 25 false q k (low binary32)) (inf false)))
-    go true = odd-unsigned 25 q k (low binary32)
+    go : (b : Bool) → T (nonneg (cond b (odd 25 false q k (low binary32)) (inf false)))
+    go true = odd-nonneg 25 q k (low binary32)
     go false = tt
 
+rounded-nonneg : (a c : ℕ) → T (nonneg (rounded a c))
+rounded-nonneg a c = rw round-is (units-nonneg _ _)
+
 rounded-unsigned : (a c : ℕ) → T (unsigned (rounded a c))
-rounded-unsigned a c = rw round-is (units-unsigned _ _)
+rounded-unsigned a c = nonneg-unsigned (rounded a c) (rounded-nonneg a c)
 
 -- a smaller fraction stays finite
 rounded-fine : (a c b d : ℕ) → 0 < c → 0 < d → a * d ≤ b * c → T (fine (rounded b d)) → T (fine (rounded a c))
@@ -217,7 +232,7 @@ pub tested-fine : (s : Float) → T (lt tiny32 s) → T (le s greatest32) → T 
 tested-fine s h l = le-fine s greatest32 (nonneg-unsigned s (above-nonneg s h)) (unfold ofBits in tt) l
 
 -- 1e-30 is above 2 ^ -100
-tiny-below : (s : Float) → T (fine s) → T (lt tiny32 s) → (0 < num s) × (den s ≤ 2 ^ 100 * num s)
+pub tiny-below : (s : Float) → T (fine s) → T (lt tiny32 s) → (0 < num s) × (den s ≤ 2 ^ 100 * num s)
 unfolding lt ofBits
 tiny-below =
     by-fine (λ s. T (lt tiny32 s) → (0 < num s) × (den s ≤ 2 ^ 100 * num s))
@@ -232,13 +247,20 @@ tiny-below =
         let k = positive c (a * 2 ^ 100) (rw mul-assoc h) in
         (first-pos a (2 ^ 100) (k .0), rw mul-comm (k .1))
 
-div-is : (s : Float) → T (fine s) → 0 < num s → div binary32 one32 s ≡ rounded (den s) (num s)
-unfolding div ofBits
-div-is = by-fine (λ s. 0 < num s → div binary32 one32 s ≡ rounded (den s) (num s)) go
+quotient-is : (x y : Float) → T (fine x) → T (fine y) → 0 < num y → div binary32 x y ≡ rounded (num x * den y) (num y * den x)
+unfolding div
+quotient-is = by-fine2 (λ x y. 0 < num y → div binary32 x y ≡ rounded (num x * den y) (num y * den x)) go
   where
-    go : (m : ℕ) (e : ℤ) → 0 < m * up e → div binary32 one32 (fin false m e) ≡ rounded (down e) (m * up e)
-    go zero e h = absurd (omega arith)
-    go (suc m) e h = rw (eqb·suc-zero, one-mul (down e), mul-one (suc m * up e))
+    go : (m : ℕ) (e : ℤ) (n : ℕ) (d : ℤ) → 0 < n * up d → div binary32 (fin false m e) (fin false n d) ≡ rounded (m * up e * down d) (n * up d * down e)
+    go m e zero d h = absurd (omega arith)
+    go m e (suc n) d h = rw eqb·suc-zero
+
+pub quotient-nonneg : (x y : Float) → T (fine x) → T (fine y) → 0 < num y → T (nonneg (div binary32 x y))
+quotient-nonneg x y p q h = rw (quotient-is x y p q h) (rounded-nonneg _ _)
+
+div-is : (s : Float) → T (fine s) → 0 < num s → div binary32 one32 s ≡ rounded (den s) (num s)
+unfolding ofBits
+div-is s f h = rw (quotient-is one32 s tt f h, one-mul (den s), mul-one (num s))
 
 -- a factor of at most b
 factor-most : (s : Float) → T (fine s) → 0 < num s → (b : ℕ) → Whole b → den s ≤ b * num s

@@ -6,11 +6,9 @@ use mathlib.Core.Bool.{true, false}
 use native.Mathlib.Omega.{arith}
 use native.Mathlib.Nat.{mul-pos}
 use borrow.Author.Tests.{le-ltb}
-use lib.Dec.{T, ltb}
-use lib.IntN.{pos}
+use lib.Dec.{T}
 use lib.ListN.{length, getD-replicate}
-use lib.Ieee.{Float, nan, inf, fin, binary32, up, down, round, mul, div, lt, ofBits}
-use lib.Ieee.Scale.{round-same}
+use lib.Ieee.{Float, nan, inf, fin, binary32, up, down, mul, div, lt, ofBits}
 use lib.Ieee.Positive.{num, den, den-pos}
 use Rattle.lists.specs.Choice.{pick}
 use Rattle.lists.proofs.Choice.{pick-false}
@@ -22,11 +20,9 @@ use Rattle.vectors.specs.Decision.{decision}
 use Rattle.vectors.specs.Fine.{unsigned, fine, Fine}
 use Rattle.vectors.specs.KnownZero.{knownZero}
 use Rattle.vectors.proofs.FineFloats.{mul-is, mul-unsigned, factor-fine}
+use Rattle.vectors.proofs.FiniteFloats.{nil, round-zero}
+use Rattle.vectors.proofs.FloatOrder.{lt-same}
 use Rattle.vectors.proofs.FineVectors.{product-at, scaled-at, uniform-at, normalized-either}
-
--- +0
-abbrev nil : Float
-nil = fin false 0 (pos 0)
 
 -- nothing but +0 past index 0, where there is nothing negative
 pub record Known (p : Vector) : Type 0 where
@@ -54,15 +50,9 @@ knownZero-length = refl
 
 -- ---- products
 
-round-nil : round binary32 false 0 1 ≡ nil
-unfolding round
-round-nil = refl
-
 mul-nil : (x : Float) → T (fine x) → mul binary32 nil x ≡ nil
 mul-nil x f =
-    mul-is nil x tt f
-    ∙ round-same binary32 false (0 * num x) (1 * den x) 0 1 (mul-pos (omega arith) (den-pos x)) (omega arith) (omega arith)
-    ∙ round-nil
+    mul-is nil x tt f ∙ round-zero (0 * num x) (1 * den x) (omega arith) (mul-pos (omega arith) (den-pos x))
 
 pub known-product : (p q : Vector) → Known p → Fine q → Known (entryProduct p q)
 known-product p q c f = record {
@@ -79,17 +69,6 @@ lt-nil (inf true) p = absurd p
 lt-nil (inf false) p = refl
 lt-nil (fin true m e) p = absurd p
 lt-nil (fin false m e) p = le-ltb (m * up e * 1) (0 * down e) (omega arith)
-
-ltb-same : (a : ℕ) → ltb a a ≡ false
-ltb-same a = le-ltb a a (omega arith)
-
-lt-same : (x : Float) → lt x x ≡ false
-unfolding lt
-lt-same nan = refl
-lt-same (inf true) = refl
-lt-same (inf false) = refl
-lt-same (fin true m e) = ltb-same (m * up e * down e)
-lt-same (fin false m e) = ltb-same (m * up e * down e)
 
 -- no entry is above the first
 abbrev FirstBest : Vector → Type 0

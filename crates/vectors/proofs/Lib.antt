@@ -2,7 +2,10 @@ pub mod Stored
 pub mod Lengths
 pub mod HalvesWht
 pub mod ProductsTable
+pub mod FloatOrder
+pub mod FiniteFloats
 pub mod FineFloats
 pub mod FineVectors
 pub mod ChannelFine
 pub mod KnownZero
+pub mod LikeliestTwo

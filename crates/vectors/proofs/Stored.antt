@@ -1,13 +1,12 @@
 -- Laws of vectors in a part: a vector's length and entries, and what a part has after one of its vectors is stored.
 -- Assumes nothing.
-use Prim.Native.Nat.{ℕ, _+_, _-_, _*_, _<_, _≤_}
+use Prim.Native.Nat.{ℕ, _+_, _*_, _<_, _≤_}
 use mathlib.Core.Path.{_≡_, ap, sym, _∙_}
 use mathlib.Core.Logic.{_≢_, _⊎_, inl, inr}
-use mathlib.Core.List.{List, _++_}
+use mathlib.Core.List.{List}
 use native.Mathlib.Omega.{arith}
 use lib.Ieee.{Float, nan}
-use lib.ListN.{length, set, take, drop, List·getD-append}
-use lib.Seq.{length-take-le, getD-take, getD-drop, getD-append-add}
+use lib.ListN.{length, set}
 use Rattle.lists.specs.Laid.{laidFrom}
 use Rattle.lists.specs.Values.{values}
 use Rattle.lists.proofs.Cases.{less-or-not}
@@ -27,35 +26,12 @@ pub stored-length : (part : List Float) (i : ℕ) (p : Vector) → length p ≡ 
 unfolding stored
 stored-length part i p e h = Laid.from-length (i * 32) p part (omega arith)
 
--- ---- a list from place a on: the entries before it, its own, and those after it
-
-before-at : (a k : ℕ) (p part : List Float) → k < a → a ≤ length part → at (laidFrom a p part) k ≡ at part k
-unfolding laidFrom
-before-at a k p part h b =
-    List·getD-append (take a part) (p ++ drop (a + length p) part) nan k (omega (arith, length-take-le a part b)) ∙ getD-take a part k nan h
-
-behind : (a k : ℕ) (p part : List Float) → a ≤ length part → at (laidFrom a p part) (a + k) ≡ at (p ++ drop (a + length p) part) k
-unfolding laidFrom
-behind a k p part b =
-    ap (λ (n : ℕ). at (laidFrom a p part) (n + k)) (sym (length-take-le a part b)) ∙ getD-append-add (take a part) (p ++ drop (a + length p) part) k nan
-
-own-at : (a k : ℕ) (p part : List Float) → k < length p → a ≤ length part → at (laidFrom a p part) (a + k) ≡ at p k
-own-at a k p part h b = behind a k p part b ∙ List·getD-append p (drop (a + length p) part) nan k h
-
-after-at : (a k : ℕ) (p part : List Float) → a + length p ≤ k → a ≤ length part → at (laidFrom a p part) k ≡ at part k
-after-at a k p part h b =
-    let m = k - (a + length p) in
-    let e : a + (length p + m) ≡ k = omega arith in
-    let d : a + length p + m ≡ k = omega arith in
-    ap (at (laidFrom a p part)) (sym e) ∙ behind a (length p + m) p part b
-    ∙ getD-append-add p (drop (a + length p) part) m nan ∙ getD-drop (a + length p) part m nan ∙ ap (at part) d
-
 -- ---- the vector stored, and the others
 
 pub stored-same : (part : List Float) (i : ℕ) (p : Vector) → length p ≡ 32 → i * 32 + 32 ≤ length part → vector (stored part i p) i ≡ p
 unfolding vector stored
 stored-same part i p e h =
-    values-ext 32 (λ x. at (stored part i p) (i * 32 + x)) (at p) nan (λ x l. own-at (i * 32) x p part (omega arith) (omega arith))
+    values-ext 32 (λ x. at (stored part i p) (i * 32 + x)) (at p) nan (λ x l. Laid.from-own (i * 32) x p part nan (omega arith) (omega arith))
     ∙ ap (λ (n : ℕ). values n (at p)) (sym e) ∙ values-own nan p
 
 pub stored-other : (part : List Float) (i j : ℕ) (p : Vector) → length p ≡ 32 → i * 32 + 32 ≤ length part → i ≢ j → vector (stored part i p) j ≡ vector part j
@@ -64,8 +40,8 @@ stored-other part i j p e h n =
     values-ext 32 (λ x. at (stored part i p) (j * 32 + x)) (λ x. at part (j * 32 + x)) nan (λ x l. go x l (less-or-not j i))
   where
     go : (x : ℕ) → x < 32 → (j < i) ⊎ (i ≤ j) → at (laidFrom (i * 32) p part) (j * 32 + x) ≡ at part (j * 32 + x)
-    go x l (inl m) = before-at (i * 32) (j * 32 + x) p part (omega arith) (omega arith)
-    go x l (inr m) = after-at (i * 32) (j * 32 + x) p part (omega arith) (omega arith)
+    go x l (inl m) = Laid.from-before (i * 32) (j * 32 + x) p part nan (omega arith) (omega arith)
+    go x l (inr m) = Laid.from-after (i * 32) (j * 32 + x) p part nan (omega arith) (omega arith)
 
 -- ---- as a loop that stores f 0, f 1, .. one after another, where these are the vector's entries at the end
 

@@ -8,5 +8,6 @@ pub mod Products
 pub mod Exp
 pub mod Channel
 pub mod Decision
+pub mod Likeliest
 pub mod Fine
 pub mod KnownZero

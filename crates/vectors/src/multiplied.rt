@@ -42,7 +42,7 @@ pub fn read_back(table: &[u8], h: u8, p: [f32; 32]) -> [f32; 32]
     q
 }
 
-fn raise(y: f32) -> f32
+pub fn raise(y: f32) -> f32
     ensures { λ r. ⌜ r ≡ raised y ⌝ }
 {
     if y > 1e-30 { y } else { 1e-30 }

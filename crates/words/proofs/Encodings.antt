@@ -10,8 +10,10 @@ use lib.ListN.{length, replicate, length-replicate}
 use lib.Seq.{ext-getD}
 use Rattle.lists.specs.EachOnce.{EachOnce}
 use Rattle.lists.specs.Entry.{nth}
+use Rattle.lists.specs.Placed.{placed}
 use Rattle.lists.specs.Values.{values}
 use Rattle.lists.proofs.Cases.{less-or-not}
+use Rattle.lists.proofs.Placed.{placed-length, placed-other, placed-at}
 use Rattle.lists.proofs.Values.{values-length, values-at, values-ext, map-entries}
 use Rattle.field.specs.Field.{product}
 use Rattle.field.proofs.FieldSum.{sum-ext, sum-lt}
@@ -23,11 +25,10 @@ use Rattle.elimination.proofs.Eliminated.{Eliminated}
 use Rattle.elimination.proofs.Entries.{Small, Inside}
 use Rattle.elimination.proofs.Infos.{info-or-pivot, info-no-pivot, info-inside, infos-ascend, pivots-distinct}
 use Rattle.elimination.proofs.Reduced.{reduced-is}
-use Rattle.words.specs.Encoding.{informationOf, symbol, placed, paritySymbol, encoding, infoSymbols}
+use Rattle.words.specs.Encoding.{informationOf, symbol, paritySymbol, encoding, infoSymbols}
 use Rattle.words.specs.Word.{Symbols, Word}
 use Rattle.words.proofs.CheckSums.{satisfied-solves}
 use Rattle.words.proofs.Parity.{solves-parity}
-use Rattle.words.proofs.Placed.{placed-length, placed-other, placed-at}
 
 module _ (g : Graph) (order : List ℕ) where
   abbrev s : State
@@ -104,8 +105,8 @@ module _ (g : Graph) (order : List ℕ) where
           placed-at (s .pivot) (parity (symbol syms)) (front syms) (s .rank) i a (omega (arith, w .inside i a, front-length syms)) (λ l b. pivots-distinct w l i b a)
 
       -- by these symbols it is known
-      encoding-is : (x : List ℕ) → length x ≡ g .n → ((t : ℕ) → t < length positions → nth x (nth positions t) ≡ symbol syms t)
-          → ((i : ℕ) → i < s .rank → nth x (s .pivot i) ≡ parity (symbol syms) i) → x ≡ encoding g order syms
+      pub encoding-is : (x : List ℕ) → length x ≡ g .n → ((t : ℕ) → t < length (informationOf g order) → nth x (nth (informationOf g order) t) ≡ symbol syms t)
+          → ((i : ℕ) → i < reduced g order .rank → nth x (reduced g order .pivot i) ≡ paritySymbol (reduced g order) (informationOf g order) (symbol syms) i) → x ≡ encoding g order syms
       unfolding informationOf
       encoding-is x long info pivot =
           ext-getD 0 x (encoding g order syms) (long ∙ sym (encoding-length syms))

@@ -7,8 +7,10 @@ use native.Mathlib.Omega.{arith}
 use lib.ListN.{length, replicate, length-map, List·getD-eq-default}
 use Rattle.lists.specs.Chain.{startOf}
 use Rattle.lists.specs.Entry.{nth}
+use Rattle.lists.specs.Placed.{placed}
 use Rattle.lists.specs.Values.{values}
 use Rattle.lists.proofs.Chain.{start-is, start-even, start-part, chain-at}
+use Rattle.lists.proofs.Placed.{placed-ext}
 use Rattle.lists.proofs.Values.{values-at, values-ext, values-own, map-entries}
 use Rattle.field.specs.Field.{product}
 use Rattle.field.specs.FieldSum.{fieldSum}
@@ -21,10 +23,10 @@ use Rattle.lent.specs.Misencoded.{graphIn, reducedIn}
 use Rattle.graph.specs.Parts.{Parts}
 use Rattle.lent.specs.Sound.{Sound}
 use Rattle.elimination.proofs.Infos.{info-inside, table-fits}
-use Rattle.lent.proofs.Sound.{sound-infos, sound-eliminated}
-use Rattle.words.specs.Encoding.{informationOf, symbol, placed, paritySymbol, encoding, infoSymbols}
+use Rattle.lent.proofs.Sound.{sound-columns, sound-infos, sound-eliminated}
+use Rattle.words.specs.Encoding.{informationOf, symbol, paritySymbol, encoding, infoSymbols}
+use Rattle.words.specs.EncoderParts.{EncoderParts, encodedBy}
 use Rattle.words.proofs.Encodings.{info-values}
-use Rattle.words.proofs.Placed.{placed-ext}
 
 module _ (c : Code) (p : Parts) (w : Sound c p) where
   abbrev positions : List ℕ
@@ -65,6 +67,21 @@ module _ (c : Code) (p : Parts) (w : Sound c p) where
   pub table-room : c .rank * count ≤ 16384
   table-room = omega (arith, table-fits (sound-eliminated c p w) (w .fits .n-small), ap₂ (λ (i k : ℕ). i * k) (w .encoded .rank) (sym (sound-infos c p w)))
 
+  -- what an encoder asks of its parts, for a word of n symbols
+  pub encoder-parts : (n : ℕ) → n ≡ c .n → EncoderParts n (c .rank) count (p .parity) (p .info) (p .a)
+  encoder-parts n e =
+      let b = sound-columns c p w in
+      record {
+        k-small = omega (arith, w .fits .n-small);
+        r-small = omega (arith, b, w .fits .n-small);
+        info-long = omega (arith, w .fits .n-small, w .fits .parts .info);
+        info-inside = λ t h. omega (arith, e, positions-inside t h);
+        parity-long = omega (arith, b, w .fits .n-small, w .fits .parts .parity);
+        parity-inside = λ i h. omega (arith, e, parity-inside i h);
+        table-long = w .fits .parts .a;
+        table-room = table-room;
+      }
+
   -- row i of the table
   abbrev factors : ℕ → List ℕ
   factors i = map (reducedIn c p .matrix i) (infos (c .n) (reducedIn c p))
@@ -103,8 +120,8 @@ module _ (c : Code) (p : Parts) (w : Sound c p) where
         (λ t l. sym (product-mod-right (nth (p .a) (i * count + t)) (nth syms t)) ∙ ap (λ (a : ℕ). product a (symbol syms t)) (factor-at i t h l))
         ∙ ap (λ (k : ℕ). fieldSum k (λ t. product (reducedIn c p .matrix i (nth positions t)) (symbol syms t))) (sym positions-length)
 
-    pub encoded-is : placed (c .rank) (nth (p .parity)) summed (placed count (nth (p .info)) (symbol syms) (replicate (c .n) 0)) ≡ encoding (graphIn c p) (p .order) syms
-    unfolding encoding
+    pub encoded-is : encodedBy (c .n) (c .rank) count (p .parity) (p .info) (p .a) syms ≡ encoding (graphIn c p) (p .order) syms
+    unfolding encoding encodedBy
     encoded-is =
         placed-ext (c .rank) (nth (p .parity)) (reducedIn c p .pivot) summed (paritySymbol (reducedIn c p) positions (symbol syms)) _ (w .encoded .parity) summed-is
         ∙ ap₂ (λ (r : ℕ) (x : List ℕ). placed r (reducedIn c p .pivot) (paritySymbol (reducedIn c p) positions (symbol syms)) x) (w .encoded .rank)

@@ -1,7 +1,8 @@
-pub mod Placed
+pub mod EncoderParts
 pub mod CheckSums
 pub mod Parity
 pub mod Encodings
+pub mod Sums
 pub mod Linear
 pub mod Theorem
 pub mod HeldChecks

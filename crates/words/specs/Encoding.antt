@@ -2,9 +2,9 @@
 -- Assumes nothing.
 use Prim.Native.Nat.{ℕ, _%_}
 use mathlib.Core.List.{List, map}
-use lib.ListN.{length, set, replicate}
-use Rattle.lists.specs.Iter.{iter}
+use lib.ListN.{length, replicate}
 use Rattle.lists.specs.Entry.{nth}
+use Rattle.lists.specs.Placed.{placed}
 use Rattle.field.specs.Field.{product}
 use Rattle.field.specs.FieldSum.{fieldSum}
 use Rattle.elimination.specs.Graph.{Graph}
@@ -17,10 +17,6 @@ informationOf g order = infos (g .n) (reduced g order)
 -- "each symbol is taken mod 32; missing ones are zero"
 abbrev pub symbol : List ℕ → ℕ → ℕ
 symbol syms t = nth syms t % 32
-
--- values v 0, .., v (k - 1) at positions p 0, .., p (k - 1)
-unfoldable pub placed : ℕ → (ℕ → ℕ) → (ℕ → ℕ) → List ℕ → List ℕ
-placed k p v x = iter k (λ t y. set y (p t) (v t)) x
 
 -- row i of the reduced matrix makes its pivot's symbol the sum over the information symbols, each times the row's entry at its position
 abbrev pub paritySymbol : State → List ℕ → (ℕ → ℕ) → ℕ → ℕ

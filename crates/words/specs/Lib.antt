@@ -2,6 +2,7 @@ pub mod Word
 pub mod Encoding
 pub mod Linear
 pub mod OnCode
+pub mod EncoderParts
 pub mod BadWord
 pub mod Encode
 pub mod InfoOf

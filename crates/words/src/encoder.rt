@@ -3,11 +3,16 @@ ghost use mathlib.Core.Path.{_≡_};
 ghost use Prim.Native.Nat.{ℕ, _+_, _*_, _<_, _≤_};
 ghost use lib.ListN.{length};
 ghost use Rattle.lists.specs.Entry.{nth};
+ghost use Rattle.lists.specs.Placed.{placed};
 ghost use Rattle.field.specs.Field.{product};
 ghost use Rattle.field.specs.FieldSum.{fieldSum};
 ghost use Rattle.field.specs.Tabled.{Tabled};
-ghost use Rattle.words.specs.Encoding.{symbol, placed};
+ghost use Rattle.words.specs.Encoding.{symbol};
+ghost use Rattle.words.specs.EncoderParts.{EncoderParts, encodedBy};
+use calls::clear::clear_u8;
 use field::gf::mul_by;
+use field::tables::EXP;
+use field::tables::LOG;
 
 // Symbol t mod 32, or 0 where there is none.
 fn symbol(syms: &[u8], t: usize) -> u8
@@ -20,7 +25,7 @@ fn symbol(syms: &[u8], t: usize) -> u8
 }
 
 // The symbols at the first k of the given positions.
-pub fn place_symbols(k: usize, info: &[u16], syms: &[u8], word: &mut [u8])
+fn place_symbols(k: usize, info: &[u16], syms: &[u8], word: &mut [u8])
     requires { ⌜ (k ≤ length (now info)) × ((t : ℕ) → t < k → nth (now info) t < length (now word)) ⌝ }
     ensures { λ _. ⌜ now (word .exit) ≡ placed k (nth (now (info .entry))) (symbol (now (syms .entry))) (now (word .entry)) ⌝ }
 {
@@ -44,7 +49,7 @@ fn parity_symbol(exp: &[u8; 62], log: &[u8; 32], at: usize, a: &[u8], syms: &[u8
 }
 
 // The parity symbols at the first r of the given positions, from rows of k factors.
-pub fn place_parity(
+fn place_parity(
     exp: &[u8; 62],
     log: &[u8; 32],
     r: usize,
@@ -66,4 +71,24 @@ pub fn place_parity(
         word[p] = parity_symbol(exp, log, at, a, syms);
         at += k;
     }
+}
+
+// The word of the given information symbols, of a code with r parity and k information positions.
+pub fn encode(
+    r: usize,
+    k: usize,
+    parity: &[u16],
+    info: &[u16],
+    a: &[u8],
+    syms: &[u8],
+    word: &mut [u8],
+)
+    requires { ⌜ (EncoderParts (length (now word)) r k (now parity) (now info) (now a)) × (length (now syms) ≤ k) ⌝ }
+    ensures { λ _. ⌜ now (word .exit) ≡ encodedBy (length (now (word .entry))) r k (now (parity .entry)) (now (info .entry)) (now (a .entry)) (now (syms .entry)) ⌝ }
+{
+    clear_u8(word);
+    place_symbols(k, info, syms, word);
+    let exp = EXP;
+    let log = LOG;
+    place_parity(&exp, &log, r, k, parity, a, syms, word);
 }

@@ -22,7 +22,7 @@ use graph::Answer;
 use graph::Code;
 
 pub mod checks;
-mod encoder;
+pub mod encoder;
 mod positions;
 
 // Of a call that finds a number.
@@ -80,11 +80,7 @@ pub fn encode(
     if syms.len() > k {
         return Answer::Refused(8);
     }
-    clear_u8(word);
-    encoder::place_symbols(k, info, syms, word);
-    let exp = EXP;
-    let log = LOG;
-    encoder::place_parity(&exp, &log, code.rank, k, parity, a, syms, word);
+    encoder::encode(code.rank, k, parity, info, a, syms, word);
     Answer::Done
 }
 

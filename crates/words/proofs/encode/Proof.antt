@@ -9,19 +9,17 @@ use borrow.Author.Needs.{needs}
 use borrow.Author.Tests.{lt-ltb, le-ltb}
 use denote.Ref.{now}
 use lib.Dec.{eqb}
-use lib.ListN.{length, replicate, length-replicate}
+use lib.ListN.{length}
 use Rattle.calls.specs.Refusal.{refusal, misfit}
 use Rattle.calls.proofs.Refusal.{alike, refusal-hit, refusal-miss, refusal-none}
-use Rattle.field.proofs.Logarithms.{exps, logs, tabled}
 use Rattle.lent.specs.LentCode.{MatrixWork, lentMatrix, refusals}
 use Rattle.graph.specs.Parts.{Parts, lent}
 use Rattle.lent.specs.Sound.{Sound}
 use Rattle.graph.specs.declared.Answer.the-variants.{Refused}
 use Rattle.lent.proofs.Sound.{passed, sound-columns}
-use Rattle.words.specs.Encoding.{placed}
 use Rattle.words.specs.Encode.{tooManySymbols, encode}
-use Rattle.words.proofs.Placed.{placed-length}
-use Rattle.words.proofs.LentWords.{positions-length, positions-inside, parity-inside, table-room, encoded-is}
+use Rattle.words.specs.EncoderParts.{encodedBy}
+use Rattle.words.proofs.LentWords.{positions-length, encoder-parts, encoded-is}
 use Rattle.words.proofs.OnCode.{filled-code, filled-call, filled-done}
 use Rattle.words.proofs.encode.Statement.{statement}
 use Rattle.words.proofs.encode.Tie as tie
@@ -71,47 +69,28 @@ returns-2 c =
     filled-call (s .args .code) (parts s) (work s) (rest s) (own s) Refused _ (asked r) (r .refused .ensures .1) _ _ z
     8 (refusal-hit {k = 8} [] refl (lt-ltb _ (length (now (s .args .syms))) (omega (arith, k)))) (λ e. omega arith) refl
 
-place-symbols-requires : tie.Need-place-symbols-requires
-place-symbols-requires c κs =
-    let r = c .before .before .before .before .before .before .before .before .before .before .before .before in
+encode-requires : tie.Need-encode-requires
+encode-requires c κs =
+    let r = c .before .before .before .before .before .before .before .before in
     let s = S r in
-    let z = c .before .before .before .before .before .before .before .if1 .left in
-    let w = code r z .0 in
-    let l = ap length (c .before .before .before .clear-u8 .ensures) ∙ length-replicate (length (now (s .args .word))) 0 in
-    (omega (arith, w .fits .n-small, w .fits .parts .info), λ t h. omega (arith, l, long r z, positions-inside (s .args .code) (parts s) w t h))
-
-place-parity-requires : tie.Need-place-parity-requires
-unfolding exps logs
-place-parity-requires c κs =
-    let r = c .before .before .before .before .before .before .before .before .before .before .before .before .before .before .before .before .before .before in
-    let s = S r in
-    let z = c .before .before .before .before .before .before .before .before .before .before .before .before .before .if1 .left in
-    let w = code r z .0 in
-    let l = ap length (c .before .before .before .before .before .before .before .before .before .clear-u8 .ensures) ∙ length-replicate (length (now (s .args .word))) 0 in
-    let k = ap length (c .before .before .before .before .before .place-symbols .ensures) ∙ placed-length _ _ _ _ in
-    let b = sound-columns (s .args .code) (parts s) w in (
-      tabled,
-      (
-        (omega (arith, b, w .fits .n-small, w .fits .parts .parity), λ i h. omega (arith, k, l, long r z, parity-inside (s .args .code) (parts s) w i h)),
-        (omega (arith, b, w .fits .n-small), omega (arith, w .fits .n-small), w .fits .parts .a, table-room (s .args .code) (parts s) w, omega (arith, c .before .before .before .before .before .before .before .before .before .before .before .if2 .left)),
-      ),
-    )
+    let z = c .before .before .before .if1 .left in
+    (encoder-parts (s .args .code) (parts s) (code r z .0) _ (long r z), omega (arith, c .before .if2 .left))
 
 returns-3 : tie.Need-returns-3
 unfolding encode
 returns-3 c =
-    let r = c .before .before .before .before .before .before .before .before .before .before .before .before .before .before .before .before .before .before .before .before .before in
+    let r = c .before .before .before .before .before .before .before .before .before .before .before in
     let s = S r in
-    let z = c .before .before .before .before .before .before .before .before .before .before .before .before .before .before .before .before .if1 .left in
+    let z = c .before .before .before .before .before .before .if1 .left in
     let w = code r z .0 in
+    let few = c .before .before .before .before .if2 .left in
     let k = positions-length (s .args .code) (parts s) w in
     let syms = now (s .args .syms) in
     filled-done (s .args .code) (parts s) (work s) (rest s) (own s) Refused _ (asked r) (r .refused .ensures .1) _ _ z
-    (refusal-miss 8 [] refl (le-ltb _ (length syms) (omega (arith, k, c .before .before .before .before .before .before .before .before .before .before .before .before .before .before .if2 .left))) refusal-none)
+    (refusal-miss 8 [] refl (le-ltb _ (length syms) (omega (arith, k, few))) refusal-none)
     refl
-    (c .before .before .place-parity .ensures
-    ∙ ap (placed _ _ _) (c .before .before .before .before .before .before .before .before .place-symbols .ensures ∙ ap (placed _ _ _) (c .before .before .before .before .before .before .before .before .before .before .before .before .clear-u8 .ensures ∙ ap (λ (n : ℕ). replicate n 0) (long r z)))
-    ∙ encoded-is (s .args .code) (parts s) w syms (omega (arith, c .before .before .before .before .before .before .before .before .before .before .before .before .before .before .if2 .left)))
+    (c .before .before .encode .ensures ∙ ap (λ (n : ℕ). encodedBy n (s .args .code .rank) (s .args .code .n - s .args .code .rank) (now (s .args .parity)) (now (s .args .info)) (now (s .args .a)) syms) (long r z)
+    ∙ encoded-is (s .args .code) (parts s) w syms (omega (arith, few)))
 
 pub encode-spec : {M : Type 1} → statement M
 encode-spec =
@@ -125,9 +104,7 @@ encode-spec =
     (λ c. search needs)
     (λ c. search needs)
     returns-2
-    (λ c κs. search needs)
-    place-symbols-requires
-    place-parity-requires
+    encode-requires
     (λ c. search needs)
     (λ c. search needs)
     (λ c. search needs)

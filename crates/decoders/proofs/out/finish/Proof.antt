@@ -14,7 +14,7 @@ finish-spec =
     (λ c κs. search needs)
     (λ c. search needs)
     (λ c. search needs)
-    (λ c. let e = c .before .before .before .before .before .before .before .before .before .if1 .taken in (rw e, (rw e (c .before .before .before .before .before .before .copy-word .ensures), c .before .before .clear-u8 .ensures)))
+    (λ c. let e = c .before .before .before .before .before .before .before .before .before .if1 .taken in (rw e, (rw e (c .before .before .before .before .before .before .copy-u8 .ensures), c .before .before .clear-u8 .ensures)))
     (λ c κs. search needs)
     (λ c. search needs)
     (λ c. let e = c .before .before .before .before .if1 .left in (rw e, (rw e, c .before .before .clear-u82 .ensures))))

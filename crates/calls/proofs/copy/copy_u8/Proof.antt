@@ -1,4 +1,4 @@
--- `decoders::out::copy_word` meets its contract. The invariant: the first v decisions are copied.
+-- `calls::copy::copy_u8` meets its contract. The invariant: the first k entries are copied.
 -- Assumes nothing.
 use Prim.Native.Nat.{_-_, _≤_}
 use mathlib.Core.Path.{_≡_, refl, _∙_}
@@ -10,15 +10,15 @@ use Rattle.lists.specs.Laid.{laid}
 use Rattle.lists.specs.Values.{values}
 use Rattle.lists.proofs.Laid.{fill-start, fill-on, fill-end, fill-all}
 use Rattle.lists.proofs.Values.{values-take}
-use Rattle.decoders.proofs.out.copy_word.Statement.{statement}
-use Rattle.decoders.proofs.out.copy_word.Tie as tie
+use Rattle.calls.proofs.copy.copy_u8.Statement.{statement}
+use Rattle.calls.proofs.copy.copy_u8.Tie as tie
 
-pub copy-word-spec : {M : Type 1} → statement M
-copy-word-spec =
+pub copy-u8-spec : {M : Type 1} → statement M
+copy-u8-spec =
     tie.close
     (tie.spec
-    (λ decisions word₀ v₀ v-end word v. (v ≤ v-end) × (length word ≡ length word₀) × (word ≡ laid (values v (nth decisions)) word₀))
-    (λ decisions word₀ v₀ v-end word v. v-end - v)
+    (λ from to₀ k₀ k-end to k. (k ≤ k-end) × (length to ≡ length to₀) × (to ≡ laid (values k (nth from)) to₀))
+    (λ from to₀ k₀ k-end to k. k-end - k)
     (λ c. (omega arith, omega arith, fill-start _ _))
     (λ c. omega arith)
     (λ c. omega arith)
@@ -29,5 +29,5 @@ copy-word-spec =
     (λ c.
     let s = c .before .before in
     let l = c .before .loop in
-    let word = now (s .args .word) in
-    fill-end (nth (now (s .args .decisions))) (length word) (l .v) word _ (omega arith) (l .inv .2) ∙ fill-all _ _ word refl ∙ values-take 0 _ _ (s .pre)))
+    let to = now (s .args .to) in
+    fill-end (nth (now (s .args .from))) (length to) (l .k) to _ (omega arith) (l .inv .2) ∙ fill-all _ _ to refl ∙ values-take 0 _ _ (s .pre)))

@@ -1,18 +1,25 @@
 -- Values placed at positions of a list: none, one more and all; its length, and its entry at one of the positions and at any other.
 -- Assumes nothing.
 use mathlib.Core.Path.{_≡_, refl, sym, ap₂, _∙_}
-use mathlib.Core.Logic.{_≢_, _⊎_, inl, inr}
+use mathlib.Core.Logic.{_≢_, _⊎_, inl, inr, ⊎-elim}
 use mathlib.Core.List.{List}
 use Prim.Native.Nat.{ℕ, zero, suc, _+_, _<_}
 use native.Mathlib.Nat.{le-refl, le-step, not-suc-le-zero}
 use native.Mathlib.Omega.{arith}
 use lib.ListN.{length, set, length-set}
-use lib.Seq.{getD-set-same, getD-set-other}
+use lib.Seq.{getD-set-same, getD-set-other, set-out}
 use Rattle.lists.specs.Iter.{iter}
 use Rattle.lists.specs.Entry.{nth}
-use Rattle.lists.proofs.Cases.{same-or-not}
+use Rattle.lists.proofs.Cases.{same-or-not, less-or-not}
 use Rattle.lists.proofs.Iter.{iter-start, iter-on, iter-end, iter-ext}
-use Rattle.words.specs.Encoding.{placed}
+use Rattle.lists.specs.Placed.{placed}
+
+pub set-small : (l : List ℕ) (i a b : ℕ) → a < b → ((j : ℕ) → nth l j < b) → (j : ℕ) → nth (set l i a) j < b
+set-small l i a b h f j = go (same-or-not j i)
+  where
+    go : (j ≡ i) ⊎ (j ≢ i) → nth (set l i a) j < b
+    go (inl e) = ⊎-elim (λ k. rw (e, getD-set-same l i a 0 k) h) (λ k. rw (set-out l i a k) (f j)) (less-or-not i (length l))
+    go (inr n) = rw (getD-set-other l i j a 0 n) (f j)
 
 module _ (p v : ℕ → ℕ) (x : List ℕ) where
   pub placed-start : x ≡ placed 0 p v x
@@ -31,6 +38,12 @@ module _ (p v : ℕ → ℕ) (x : List ℕ) where
   unfolding placed iter
   placed-length zero = refl
   placed-length (suc k) = length-set (placed k p v x) (p k) (v k) ∙ placed-length k
+
+  -- entries below a bound
+  pub placed-small : (b k : ℕ) → ((t : ℕ) → t < k → v t < b) → ((j : ℕ) → nth x j < b) → (j : ℕ) → nth (placed k p v x) j < b
+  unfolding placed iter
+  placed-small b zero f g j = g j
+  placed-small b (suc k) f g j = set-small (placed k p v x) (p k) (v k) b (f k (le-refl (suc k))) (placed-small b k (λ t h. f t (le-step h)) g) j
 
   -- at none of the positions
   pub placed-other : (k j : ℕ) → ((t : ℕ) → t < k → p t ≢ j) → nth (placed k p v x) j ≡ nth x j

@@ -1,0 +1,12 @@
+pub mod LeastSure
+pub mod Flips
+pub mod RowsOf
+pub mod TriedSteps
+pub mod Slots
+pub mod Stepping
+pub mod Units
+pub mod GrayCode
+pub mod BestCandidate
+pub mod ListWords
+pub mod Holding
+pub mod Choices
