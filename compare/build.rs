@@ -3,10 +3,10 @@
 //!
 //! The copies go to cargo's output folder and are never committed. Their arithmetic is the
 //! original's: the replacements open private items, make the text fit to be included and set a
-//! sibling beside `decode_soft`. One copy keeps the Rust's own exp, and in the one that ours is held
-//! to document 01's stands in for it. Where the original is not as expected, the build stops and says
-//! what did not fit. The SHA-256 of the source is checked by compare/run; the exact replacements hold
-//! also without it.
+//! sibling beside `decode_soft`. One copy keeps the Rust's own exp and ln, and in the one that ours is
+//! held to document 01's stand in for them. Where the original is not as expected, the build stops and
+//! says what did not fit. The SHA-256 of the source is checked by compare/run; the exact replacements
+//! hold also without it.
 
 use std::path::{Path, PathBuf};
 use std::{env, fs};
@@ -142,13 +142,21 @@ const DECODE_SOFT_HEAD: &str = "    pub fn decode_soft(";
 const METHOD_END: &str = "\n    }\n";
 
 /// Document 01's stand-ins, in the copy that ours is held to; `decode_soft` and its sibling have one
-/// each.
-const STAND_INS: &[Replacement] = &[Replacement {
-    purpose: "document 01's exp",
-    old: "*o = (l - mx).max(-60.0).exp();",
-    new: "*o = crate::stand_ins::exp((l - mx).max(-60.0));",
-    times: 2,
-}];
+/// exp each.
+const STAND_INS: &[Replacement] = &[
+    Replacement {
+        purpose: "document 01's exp",
+        old: "*o = (l - mx).max(-60.0).exp();",
+        new: "*o = crate::stand_ins::exp((l - mx).max(-60.0));",
+        times: 2,
+    },
+    Replacement {
+        purpose: "document 01 drops ln: the quotient itself is the margin",
+        old: "(pv[b[0]].max(1e-30) / pv[b[1]].max(1e-30)).ln()",
+        new: "pv[b[0]].max(1e-30) / pv[b[1]].max(1e-30)",
+        times: 1,
+    },
+];
 
 /// The first lines of the enum that is cut out of fec.rs, and what ends it.
 const RATE_HEAD: &str = "#[derive(Clone, Copy, Debug, PartialEq, Eq, Hash)]\npub enum Rate {\n";
@@ -163,12 +171,9 @@ fn main() {
     let source = folder("HAZGUNEK_SOURCE", root.join("../shared/docs/src"));
     let nb = text(&source.join("crates/ion/src/fec/nb.rs"));
     let fec = text(&source.join("crates/ion/src/fec.rs"));
-    let own_exp = with_sibling(REPLACEMENTS.iter().fold(nb, replaced));
-    write(&out.join("nb_own_exp.rs"), &own_exp);
-    write(
-        &out.join("nb.rs"),
-        &STAND_INS.iter().fold(own_exp, replaced),
-    );
+    let own = with_sibling(REPLACEMENTS.iter().fold(nb, replaced));
+    write(&out.join("nb_own.rs"), &own);
+    write(&out.join("nb.rs"), &STAND_INS.iter().fold(own, replaced));
     write(
         &out.join("rate.rs"),
         cut("fec.rs", &fec, RATE_HEAD, RATE_END),

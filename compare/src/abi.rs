@@ -136,6 +136,16 @@ calls_on_code! {
         vectors: *mut Float,
         vectors_len: usize
     );
+    fn hazgunek_list_decode(
+        metrics: *const Float,
+        metrics_len: usize,
+        posteriors: *const Float,
+        posteriors_len: usize,
+        width: usize,
+        rounds: *mut u32,
+        word: *mut u8,
+        word_len: usize
+    );
 }
 
 calls_on_code! {
@@ -425,6 +435,30 @@ pub fn decode(on: OnCode, received: Received, worked: Worked) -> u8 {
             worked.word.len();
             worked.vectors.as_mut_ptr(),
             worked.vectors.len()
+        )
+    )
+}
+
+pub fn list_decode(
+    on: OnCode,
+    metrics: &[Float],
+    posteriors: &[Float],
+    width: usize,
+    rounds: &mut u32,
+    word: &mut [u8],
+) -> u8 {
+    call_on_code!(
+        on,
+        as_ptr,
+        hazgunek_list_decode(
+            metrics.as_ptr(),
+            metrics.len(),
+            posteriors.as_ptr(),
+            posteriors.len(),
+            width,
+            rounds,
+            word.as_mut_ptr(),
+            word.len()
         )
     )
 }

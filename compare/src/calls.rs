@@ -1,9 +1,12 @@
 //! Calls to make on a lent code: arguments of every kind.
 
 use crate::decode_call::Decoding;
+use crate::likelihoods::Likelihoods;
+use crate::list_decode_call::{ListDecoding, WIDEST};
 use crate::metrics;
 use crate::on_code::Call;
 use crate::oracle::NbCode;
+use crate::posteriors;
 use crate::preferences;
 use crate::random::Random;
 
@@ -16,6 +19,7 @@ pub fn each_call(random: &mut Random, n: usize, k: usize) -> Vec<Call> {
     let prefer = preferences::at_random(random, n);
     let sent = random.symbols(n, 32);
     let metrics = metrics::at_random(random, &sent);
+    let list = list_decoding(random, metrics.clone(), &sent);
     let decoding = Decoding::new(metrics, random.below(k + 2) as u32, random.below(4) as u32);
     vec![
         Call::Encode { syms, word: n },
@@ -37,7 +41,22 @@ pub fn each_call(random: &mut Random, n: usize, k: usize) -> Vec<Call> {
         Call::WithPeeledInfo { prefer },
         Call::Decode(decoding.without_posteriors()),
         Call::Decode(decoding),
+        Call::ListDecode(list),
     ]
+}
+
+/// A narrow one, or at times one that is too wide, and at times with a posterior that is not finite.
+fn list_decoding(random: &mut Random, metrics: Likelihoods, sent: &[u8]) -> ListDecoding {
+    let width = match random.below(8) {
+        0 => WIDEST + 1,
+        _ => random.below(6),
+    };
+    let mut posteriors = posteriors::at_random(random, sent);
+    let place = random.below(8 * posteriors.floats.len().max(1));
+    if let Some(posterior) = posteriors.floats.get_mut(place) {
+        *posterior = [f32::NAN, f32::INFINITY, f32::NEG_INFINITY][random.below(3)].into();
+    }
+    ListDecoding::new(metrics, posteriors, width)
 }
 
 /// Each call, and two words more: an encoding, and one with a symbol changed.

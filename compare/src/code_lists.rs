@@ -81,6 +81,7 @@ pub fn write_line(text: &mut String, code: &CodeOfLine, call: Call, arguments: &
 fn answers(asked: &Asked) -> Vec<u64> {
     let answer = asked.answer();
     let found = answer.found.unwrap_or(0) as u64;
+    let rounds = answer.rounds.unwrap_or(0).into();
     let symbols = |n| {
         let symbols = answer.symbols.clone().unwrap_or(vec![1; n]);
         digest(symbols.into_iter().map(u64::from))
@@ -103,13 +104,13 @@ fn answers(asked: &Asked) -> Vec<u64> {
         }
         Call::WithPeeledInfo { .. } => written_over(asked, answer.code.as_ref()),
         Call::Decode(ref decoding) => {
-            let rounds = answer.rounds.unwrap_or(0).into();
             let soft = decoding.posteriors.map(posteriors);
             [rounds, symbols(decoding.word)]
                 .into_iter()
                 .chain(soft)
                 .collect()
         }
+        Call::ListDecode(ref list) => vec![rounds, symbols(list.word)],
     };
     [&[answer.number.into()], &left[..]].concat()
 }

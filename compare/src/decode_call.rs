@@ -1,7 +1,7 @@
 //! What `decode_soft` and `decode` are asked of a lent code, and what the original makes of it.
 
 use crate::float::{Float, lent, plain};
-use crate::metrics::Metrics;
+use crate::likelihoods::Likelihoods;
 use crate::oracle::NbCode;
 use std::fmt;
 
@@ -11,7 +11,7 @@ pub const VECTORS: usize = 50_176;
 /// What both calls are given beside the code, and the lengths of what they fill and work in.
 #[derive(Clone)]
 pub struct Decoding {
-    pub metrics: Metrics,
+    pub metrics: Likelihoods,
     pub known: u32,
     pub limit: u32,
     pub word: usize,
@@ -31,7 +31,7 @@ pub struct Decoded {
 
 impl Decoding {
     /// With posteriors, and every part of the length that metrics of n symbols ask for.
-    pub fn new(metrics: Metrics, known: u32, limit: u32) -> Self {
+    pub fn new(metrics: Likelihoods, known: u32, limit: u32) -> Self {
         let length = metrics.floats.len();
         Self {
             metrics,
@@ -89,18 +89,9 @@ impl Decoding {
     }
 }
 
-/// No more metrics are printed, by their bits.
-const PRINTED: usize = 64;
-
 impl fmt::Display for Decoding {
     fn fmt(&self, f: &mut fmt::Formatter) -> fmt::Result {
-        let Metrics { name, floats } = &self.metrics;
-        write!(f, "({} metrics {name}", floats.len())?;
-        if floats.len() <= PRINTED {
-            for run in floats.chunk_by(|a, b| a == b) {
-                write!(f, " {}*{:08X}", run.len(), run[0].bits())?;
-            }
-        }
+        write!(f, "(metrics {}", self.metrics)?;
         write!(f, ", known {}, limit {}", self.known, self.limit)?;
         write!(f, ", word of {}", self.word)?;
         if let Some(length) = self.posteriors {

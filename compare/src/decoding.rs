@@ -55,7 +55,7 @@ pub const FRAME: u32 = 100;
 /// rates. Rounds that lead nowhere take long, so no more than so many are made of other decodings.
 const OF_LEVEL: usize = 3;
 const OF_RATE: usize = 30;
-const FEW_ROUNDS: u32 = 10;
+pub const FEW_ROUNDS: u32 = 10;
 
 /// The codes of the four rates with both information sets: words in noise from almost none to little
 /// else, also with known counts at every end, metrics of each kind, and metrics at random.
@@ -110,7 +110,7 @@ fn compare_late(tallies: &mut Tallies, random: &mut Random, own_exp: &mut OwnExp
 }
 
 /// A word at random that is 0 past the known count, in noise.
-fn in_noise_of(
+pub fn in_noise_of(
     random: &mut Random,
     built: &NbCode,
     level: f32,

@@ -8,10 +8,8 @@ use crate::code_lists::{
 };
 use crate::damage::Change;
 use crate::decode_call::Decoding;
-use crate::float::Float;
-use crate::metrics::Metrics;
+use crate::line_floats::{METRICS_HEAD, Made, ZEROS, sent};
 use crate::on_code::Call;
-use crate::oracle::{NbCode, mix};
 
 const CALLS_HEAD: &str = "\
 # decode_soft CODE DAMAGE RULE DRAWS SPREAD PEAK KNOWN LIMIT NUMBER ROUNDS WORD POSTERIORS
@@ -19,30 +17,15 @@ const CALLS_HEAD: &str = "\
 ";
 
 const LIST_HEAD: &str = "\
-# Metrics are made by SplitMix64 from DRAWS. The first draws, each mod 32, are symbols: as many as KNOWN, or as the code has
-# information positions where that is less. What `encode` answers to them before the damage is the word that was sent.
-# Then every draw gives a metric: that of variable 0 at value 0, at value 1 and so on to 31, then those of variable 1, up to N - 1.
-# The draw mod SPREAD, which is 1 to 32768, is d. The metric is d / 8, but (d + PEAK) / 8 at the value that was sent, PEAK being 0
-# to 32767. By RULE 1, where d is below 7, it is by d instead NaN, infinity, minus infinity, -0.0, or the float of bits 1,
-# 2139095039 or 4286578687: the least above 0, the greatest and its negative. By RULE 0 it is never so.
 # KNOWN and LIMIT have 32 bits. NUMBER is the refusal's, by document 01, 0 for none. ROUNDS is 0 where that is neither 0 nor 10.
 # WORD is a part of N entries, POSTERIORS one of 32 N floats, none of them a NaN; the bits of a float stand for it in the digest.
 # Before a call every entry of every output and work part is 1, and 1.0 where it is a float.
 ";
 
-/// How metrics are made: whether some are special, the seed of the draws, SPREAD and PEAK.
-#[derive(Clone, Copy)]
-enum Made {
-    Plain(u64, u64, u64),
-    Special(u64, u64, u64),
-}
-
 use Made::{Plain, Special};
 
 /// A code with its damage, the metrics, the known count and the limit. Both calls are listed.
 type Line = (Row, u64, Option<Change>, Made, u32, u32);
-
-const ZEROS: Made = Plain(0, 1, 0);
 
 /// A check of 32 variables, and one of 33.
 const DEGREE_32: Row = (32, 1, 32, 1, 0);
@@ -101,7 +84,8 @@ const LINES: &[Line] = &[
 
 /// This layer's fixed list, by the original alone where a call is not turned down before its rounds.
 pub fn list() -> String {
-    let mut text = [CALLS_HEAD, CODE_HEAD, LIST_HEAD, DIGEST_HEAD].concat();
+    let heads = [CALLS_HEAD, CODE_HEAD, METRICS_HEAD, LIST_HEAD, DIGEST_HEAD];
+    let mut text = heads.concat();
     for (row, made) in asked::RATES.into_iter().zip(OF_RATES) {
         list_line(&mut text, (row, SEED, None, made, 52, 100));
     }
@@ -113,45 +97,11 @@ pub fn list() -> String {
 
 fn list_line(text: &mut String, (row, seed, damage, made, known, limit): Line) {
     let code = CodeOfLine::new(row, seed, damage);
-    let decoding = Decoding::new(metrics(&code.built, made, known), known, limit);
-    let (rule, [draws, spread, peak]) = match made {
-        Plain(draws, spread, peak) => (0, [draws, spread, peak]),
-        Special(draws, spread, peak) => (1, [draws, spread, peak]),
-    };
+    let (_, metrics) = sent(&code.built, made, known);
+    let decoding = Decoding::new(metrics, known, limit);
+    let [rule, draws, spread, peak] = made.arguments();
     let arguments = [rule, draws, spread, peak, known.into(), limit.into()];
     for decoding in [decoding.clone(), decoding.without_posteriors()] {
         write_line(text, &code, Call::Decode(decoding), &arguments);
-    }
-}
-
-/// What a metric is where a draw is so special.
-const SPECIAL: [u32; 7] = [
-    0x7FC0_0000,
-    0x7F80_0000,
-    0xFF80_0000,
-    0x8000_0000,
-    0x0000_0001,
-    0x7F7F_FFFF,
-    0xFF7F_FFFF,
-];
-
-fn metrics(built: &NbCode, made: Made, known: u32) -> Metrics {
-    let (Plain(mut state, spread, peak) | Special(mut state, spread, peak)) = made;
-    let count = built.k().min(known as usize);
-    let symbols: Vec<u8> = (0..count).map(|_| (mix(&mut state) % 32) as u8).collect();
-    let mut floats = Vec::new();
-    for symbol in built.encode(&symbols) {
-        for x in 0..32 {
-            let d = mix(&mut state) % spread;
-            let raised = if x == symbol { d + peak } else { d };
-            floats.push(match (made, SPECIAL.get(d as usize)) {
-                (Special(..), Some(&bits)) => Float::of_bits(bits),
-                _ => (raised as f32 / 8.0).into(),
-            });
-        }
-    }
-    Metrics {
-        name: "of a line".to_string(),
-        floats,
     }
 }

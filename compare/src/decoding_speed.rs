@@ -10,7 +10,7 @@ use crate::float::plain;
 use crate::lent_code::{LentCode, LentOwn};
 use crate::metrics::{self, Kind};
 use crate::on_code::{Call, Judged, WORK, timed};
-use crate::oracle::{NbCode, OwnExpCode};
+use crate::oracle::{NbCode, OwnCode};
 use crate::random::Random;
 use crate::speed::{Test, best_times, print_ratio};
 use std::cell::RefCell;
@@ -24,7 +24,7 @@ fn rust_decode_soft(built: &NbCode, metrics: &[f32], limit: u32) -> Result<Vec<u
 }
 
 #[inline(never)]
-fn rust_with_own_exp(built: &OwnExpCode, metrics: &[f32], limit: u32) -> Result<Vec<u8>, Vec<f32>> {
+fn rust_with_own_exp(built: &OwnCode, metrics: &[f32], limit: u32) -> Result<Vec<u8>, Vec<f32>> {
     built.decode_soft(metrics, built.k(), limit as usize)
 }
 
@@ -42,7 +42,7 @@ pub fn measure() {
 
 fn measure_code(on: &Judged) {
     let Code { n, m, .. } = on.code;
-    let (built, own_exp) = (on.built(), OwnExpCode::from(on.built()));
+    let (built, own_exp) = (on.built(), OwnCode::from(on.built()));
     let sizes = format!("{n} variables and {m} checks");
     // Noise alone, so that no round satisfies all checks.
     let metrics = metrics::of(&mut Random::new(), &vec![0; n], &[Kind::Noise(2.0)]);

@@ -114,13 +114,13 @@ impl LentOwn {
             Call::InfoPositions { positions } => (0, positions),
             Call::PeelPicks { picks, .. } => (0, picks),
             Call::Decode(ref decoding) => (decoding.word, 0),
+            Call::ListDecode(ref list) => (list.word, 0),
             _ => (0, 0),
         };
-        let (posteriors, vectors) = match call {
-            Call::Decode(decoding) => (decoding.posteriors.unwrap_or(0), decoding.vectors),
-            _ => (0, 0),
+        let vectors = match call {
+            Call::Decode(decoding) => decoding.vectors,
+            _ => 0,
         };
-        let floats = |length| Guarded::new(&vec![filling.float(); length], filling.float());
         Self {
             given: Guarded::new(call.given(), filling.narrow),
             prefer: Guarded::new(call.prefer(), filling.number as i64),
@@ -130,8 +130,8 @@ impl LentOwn {
             symbols: Guarded::new(&vec![filling.narrow; symbols], filling.narrow),
             positions: Guarded::new(&vec![filling.wide; positions], filling.wide),
             rounds: Guarded::new(&[filling.long()], filling.long()),
-            posteriors: floats(posteriors),
-            vectors: floats(vectors),
+            posteriors: Guarded::new(&call.posteriors(filling), filling.float()),
+            vectors: Guarded::new(&vec![filling.float(); vectors], filling.float()),
         }
     }
 
@@ -169,6 +169,14 @@ impl LentOwn {
                     None => abi::decode(on, received, worked),
                 }
             }
+            Call::ListDecode(ref list) => abi::list_decode(
+                on,
+                self.metrics.lend(),
+                self.posteriors.lend(),
+                list.width,
+                self.rounds.lend_one(),
+                symbols,
+            ),
         }
     }
 
@@ -193,13 +201,13 @@ impl LentOwn {
         let before = vec![filling.wide; self.positions.part().len()];
         let positions = answer.positions.as_ref().unwrap_or(&before);
         self.positions.compare(case, "positions", positions);
-        self.compare_decoding(case, filling, answer);
+        self.compare_decoding(case, call, filling, answer);
     }
 
-    fn compare_decoding(&self, case: &mut Case, filling: &Filling, answer: &Answer) {
+    fn compare_decoding(&self, case: &mut Case, call: &Call, filling: &Filling, answer: &Answer) {
         let rounds = answer.rounds.unwrap_or(filling.long());
         self.rounds.compare_one(case, "rounds", rounds);
-        let before = vec![filling.float(); self.posteriors.part().len()];
+        let before = call.posteriors(filling);
         let posteriors = answer.posteriors.as_ref().unwrap_or(&before);
         self.posteriors.compare(case, "posteriors", posteriors);
         let left = match answer.number {

@@ -6,6 +6,7 @@
 use crate::decoding_list;
 use crate::field;
 use crate::graph;
+use crate::list_decoding_list;
 use crate::peeling_list;
 use crate::report::{Case, HeldTo, Tally};
 use crate::words_list;
@@ -36,6 +37,10 @@ const LISTS: &[List] = &[
     List {
         layer: "decoding",
         text: decoding_list::list,
+    },
+    List {
+        layer: "list_decoding",
+        text: list_decoding_list::list,
     },
 ];
 

@@ -1,7 +1,7 @@
 //! The differences that docs/DIFFERENCES.md lists, each at its smallest input: the original still
 //! does what the document says of it. What ours does instead is compared with the other calls.
 
-use crate::oracle::{GF, NbCode, OwnExpCode, even_degrees};
+use crate::oracle::{GF, NbCode, OwnCode, even_degrees};
 use crate::report::{Case, HeldTo, Tally};
 use std::panic::{catch_unwind, set_hook, take_hook};
 
@@ -139,6 +139,66 @@ const LISTED: &[(&str, Outcome, Call)] = &[
         Outcome::Answers(1_020_617_962),
         own_posterior,
     ),
+    (
+        "list_decode(width 17) of n 0, m 0",
+        Outcome::Answers(0),
+        || nothing().list_decode(&[], &[], 17).len(),
+    ),
+    (
+        "list_decode(width 32) of n 32, m 0, metrics 1.0 at value 1, posteriors 0.0",
+        Outcome::Answers(0),
+        || count_of_ones(32),
+    ),
+    (
+        "list_decode(posteriors NaN, 31*0.0, width 0) of n 1, m 0",
+        Outcome::Answers(0),
+        || symbol(&no_checks(), f32::NAN),
+    ),
+    (
+        "list_decode(posteriors infinity, 31*0.0, width 0) of n 1, m 0",
+        Outcome::Answers(0),
+        || symbol(&no_checks(), f32::INFINITY),
+    ),
+    (
+        "list_decode(posteriors -infinity, 31*0.0, width 0) of n 1, m 0",
+        Outcome::Answers(1),
+        || symbol(&no_checks(), f32::NEG_INFINITY),
+    ),
+    (
+        "list_decode(posteriors NaN, 31*0.0, width 0) of n 1, m 1",
+        Outcome::Answers(0),
+        || symbol(&one_edge(), f32::NAN),
+    ),
+    (
+        "list_decode(one metric) of n 0, m 0",
+        Outcome::Answers(0),
+        || nothing().list_decode(&[0.0], &[], 0).len(),
+    ),
+    (
+        "list_decode(no metrics) of n 1, m 0",
+        Outcome::Panics,
+        || no_checks().list_decode(&[], &[0.0; 32], 0).len(),
+    ),
+    (
+        "list_decode(one posterior) of n 0, m 0",
+        Outcome::Answers(0),
+        || nothing().list_decode(&[], &[0.0], 0).len(),
+    ),
+    (
+        "list_decode(no posteriors) of n 1, m 0",
+        Outcome::Panics,
+        || no_checks().list_decode(&[0.0; 32], &[], 0).len(),
+    ),
+    (
+        "list_decode(no posteriors) of n 1, m 1",
+        Outcome::Answers(0),
+        || one_edge().list_decode(&[0.0; 32], &[], 0)[0].into(),
+    ),
+    (
+        "list_decode(width 1) of n 2, m 0, margins of one logarithm, symbol 0",
+        Outcome::Answers(1),
+        own_symbol,
+    ),
 ];
 
 /// How many rounds are done, with all symbols known.
@@ -150,8 +210,38 @@ fn rounds(code: &NbCode, metrics: &[f32], limit: usize) -> usize {
 fn own_posterior() -> usize {
     let mut metrics = [0.0; 32];
     metrics[0] = 2.0;
-    let code = OwnExpCode::new(1, 0, &[0], 0);
+    let code = OwnCode::new(1, 0, &[0], 0);
     code.decode_rounds(&metrics, 1, 1).2[1].to_bits() as usize
+}
+
+/// The first symbol of a list of width 0 by metrics 0.0, posteriors being this one and then 0.0.
+fn symbol(code: &NbCode, posterior: f32) -> usize {
+    let mut posteriors = [0.0; 32];
+    posteriors[0] = posterior;
+    code.list_decode(&[0.0; 32], &posteriors, 0)[0].into()
+}
+
+/// How many symbols a list of this width takes at their second likeliest value, 1, where each of as
+/// many has the metric 1.0 there.
+fn count_of_ones(width: usize) -> usize {
+    let code = NbCode::new(width, 0, &vec![0; width], 0);
+    let mut metrics = vec![0.0; 32 * width];
+    metrics
+        .iter_mut()
+        .skip(1)
+        .step_by(32)
+        .for_each(|x| *x = 1.0);
+    let word = code.list_decode(&metrics, &vec![0.0; 32 * width], width);
+    word.iter().filter(|&&x| x == 1).count()
+}
+
+/// With the Rust's own ln: of two symbols, the first has the greater margin, by one last bit.
+fn own_symbol() -> usize {
+    let [mut metrics, mut posteriors] = [[0.0; 64]; 2];
+    [metrics[1], metrics[33]] = [1.0; 2];
+    [posteriors[0], posteriors[32]] = [1.0_f32.next_up(), 1.0];
+    let code = OwnCode::new(2, 0, &[0; 2], 0);
+    code.list_decode(&metrics, &posteriors, 1)[0].into()
 }
 
 /// A preference function that reads a list.

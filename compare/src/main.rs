@@ -5,6 +5,7 @@ mod abi;
 mod arithmetic;
 mod asked;
 mod calls;
+mod candidates;
 mod code;
 mod code_lists;
 mod codes;
@@ -21,14 +22,23 @@ mod guarded;
 mod judge;
 mod lent;
 mod lent_code;
+mod likelihoods;
+mod line_floats;
 mod list;
+mod list_decode_call;
+mod list_decoding;
+mod list_decoding_list;
+mod list_decoding_speed;
+mod list_refused;
 mod listed;
 mod metrics;
 mod on_code;
 mod oracle;
 mod own_exp;
+mod own_ln;
 mod peeling;
 mod peeling_list;
+mod posteriors;
 mod preferences;
 mod random;
 mod refused;
@@ -80,6 +90,7 @@ fn compare() -> ExitCode {
     words::measure();
     peeling::measure();
     decoding_speed::measure();
+    list_decoding_speed::measure();
     if differences == 0 {
         println!("no differences");
         ExitCode::SUCCESS
@@ -95,6 +106,8 @@ fn compare_on_codes() -> u64 {
     words::compare(&mut tallies);
     peeling::compare(&mut tallies);
     decoding::compare(&mut tallies);
+    list_decoding::compare(&mut tallies);
+    list_refused::compare(&mut tallies);
     refused::compare(&mut tallies);
     tallies.finish()
 }

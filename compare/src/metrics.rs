@@ -1,14 +1,7 @@
 //! Metrics to decode: 32 log-likelihoods for each symbol of a word.
 
-use crate::float::{Float, lent};
+use crate::likelihoods::{Likelihoods, some_kinds};
 use crate::random::Random;
-
-/// Metrics, and what they are in a report.
-#[derive(Clone)]
-pub struct Metrics {
-    pub name: String,
-    pub floats: Vec<Float>,
-}
 
 /// How the 32 metrics of a symbol come about.
 #[derive(Clone, Copy, Debug)]
@@ -89,25 +82,13 @@ const SPECIAL: [u32; 22] = [
 ];
 
 /// The metrics of a word, each symbol's by one of the kinds.
-pub fn of(random: &mut Random, word: &[u8], kinds: &[Kind]) -> Metrics {
-    let mut floats = Vec::new();
-    for &symbol in word {
-        let kind = kinds[random.below(kinds.len())];
-        floats.extend(vector(random, symbol, kind));
-    }
-    Metrics {
-        name: format!("{kinds:?}"),
-        floats: lent(floats),
-    }
+pub fn of(random: &mut Random, word: &[u8], kinds: &[Kind]) -> Likelihoods {
+    Likelihoods::of(random, word, kinds, vector)
 }
 
 /// The metrics of a word, by one kind or by some.
-pub fn at_random(random: &mut Random, word: &[u8]) -> Metrics {
-    let count = match random.below(4) {
-        0 => 2 + random.below(3),
-        _ => 1,
-    };
-    let kinds: Vec<Kind> = (0..count).map(|_| any(random)).collect();
+pub fn at_random(random: &mut Random, word: &[u8]) -> Likelihoods {
+    let kinds = some_kinds(random, any);
     of(random, word, &kinds)
 }
 
@@ -129,7 +110,7 @@ fn any(random: &mut Random) -> Kind {
     }
 }
 
-fn vector(random: &mut Random, symbol: u8, kind: Kind) -> [f32; 32] {
+pub fn vector(random: &mut Random, symbol: u8, kind: Kind) -> [f32; 32] {
     let symbol = usize::from(symbol % 32);
     let mut vector = [0.0; 32];
     match kind {
@@ -160,7 +141,7 @@ fn vector(random: &mut Random, symbol: u8, kind: Kind) -> [f32; 32] {
     vector
 }
 
-fn fill(vector: &mut [f32; 32], mut value: impl FnMut() -> f32) {
+pub fn fill(vector: &mut [f32; 32], mut value: impl FnMut() -> f32) {
     for x in vector {
         *x = value();
     }

@@ -1,11 +1,13 @@
 //! One call on a lent code: what it is asked, and what document 01 and the original make of it.
 
+use crate::candidates::Candidates;
 use crate::code::{Code, NAMES};
 use crate::decode_call::Decoding;
-use crate::filling::BEFORE;
+use crate::filling::{BEFORE, Filling};
 use crate::float::Float;
 use crate::judge::judged;
 use crate::lent_code::{LentCode, LentOwn};
+use crate::list_decode_call::ListDecoding;
 use crate::oracle::NbCode;
 use crate::report::{Case, HeldTo, Tally};
 use crate::rounds::Rounds;
@@ -54,10 +56,11 @@ pub enum Call {
     PeelPicks { prefer: Vec<i64>, picks: usize },
     WithPeeledInfo { prefer: Vec<i64> },
     Decode(Decoding),
+    ListDecode(ListDecoding),
 }
 
 /// The calls' names, in the order of the header.
-pub const CALLS: [&str; 11] = [
+pub const CALLS: [&str; 12] = [
     "encode",
     "info_of",
     "checks_ok",
@@ -69,6 +72,7 @@ pub const CALLS: [&str; 11] = [
     "with_peeled_info",
     "decode_soft",
     "decode",
+    "list_decode",
 ];
 
 impl Call {
@@ -86,6 +90,7 @@ impl Call {
             Call::WithPeeledInfo { .. } => 8,
             Call::Decode(decoding) if decoding.posteriors.is_some() => 9,
             Call::Decode(_) => 10,
+            Call::ListDecode(_) => 11,
         }
     }
 
@@ -110,7 +115,17 @@ impl Call {
     pub fn metrics(&self) -> &[Float] {
         match self {
             Call::Decode(decoding) => &decoding.metrics.floats,
+            Call::ListDecode(list) => &list.metrics.floats,
             _ => &[],
+        }
+    }
+
+    /// What stands in its posteriors beforehand: what it reads there, or the filling.
+    pub fn posteriors(&self, filling: &Filling) -> Vec<Float> {
+        match self {
+            Call::Decode(decoding) => vec![filling.float(); decoding.posteriors.unwrap_or(0)],
+            Call::ListDecode(list) => list.posteriors.floats.clone(),
+            _ => vec![],
         }
     }
 
@@ -126,17 +141,19 @@ impl Call {
             Call::WithPeeledInfo { prefer } => vec![prefer.len()],
             Call::Degree { .. } | Call::K | Call::N => vec![],
             Call::Decode(decoding) => return decoding.fits(n),
+            Call::ListDecode(list) => return list.fits(n),
         };
         lengths.iter().all(|&length| length == n)
     }
 
     /// Number 8: "A word symbol above 31 .., a position not below n, more information symbols than
-    /// the code has".
+    /// the code has, a list width above 16, or a posterior not finite".
     fn is_out_of_range(&self, built: &NbCode) -> bool {
         match self {
             Call::Encode { syms, .. } => syms.len() > built.info.len(),
             Call::InfoOf { word, .. } | Call::ChecksOk { word } => word.iter().any(|&x| x > 31),
             Call::Degree { v } => *v >= built.n,
+            Call::ListDecode(list) => list.is_out_of_range(),
             _ => false,
         }
     }
@@ -155,6 +172,7 @@ impl fmt::Display for Call {
             Call::PeelPicks { prefer, picks } => write!(f, "({prefer:?}, picks of {picks})"),
             Call::WithPeeledInfo { prefer } => write!(f, "({prefer:?})"),
             Call::Decode(decoding) => write!(f, "{decoding}"),
+            Call::ListDecode(list) => write!(f, "{list}"),
         }
     }
 }
@@ -220,8 +238,8 @@ impl<'a> Asked<'a> {
     pub fn answer(&self) -> Answer {
         let mut answer = Answer {
             number: self.refusal(),
-            // "zero for refusals 1 to 9"
-            rounds: matches!(self.call, Call::Decode(_)).then_some(0),
+            // "zero for refusals 1 to 9"; "the list decoder called by itself reports 0"
+            rounds: matches!(self.call, Call::Decode(_) | Call::ListDecode(_)).then_some(0),
             ..Answer::default()
         };
         if answer.number != 0 {
@@ -251,6 +269,7 @@ impl<'a> Asked<'a> {
                 answer.symbols = decoded.word;
                 answer.posteriors = decoding.posteriors.map(|_| decoded.posteriors);
             }
+            Call::ListDecode(list) => answer.symbols = Some(list.decoded(built)),
         }
         answer
     }
@@ -307,12 +326,13 @@ fn padded<T: Clone + Default>(mut answer: Vec<T>, length: usize) -> Vec<T> {
     answer
 }
 
-/// The cases of each call, the ties among those of `peel_picks` that are not turned down, and the
-/// rounds of those of `decode_soft`.
+/// The cases of each call, the ties among those of `peel_picks` that are not turned down, the rounds
+/// of those of `decode_soft`, and the candidates of those of `list_decode`.
 pub struct Tallies {
     calls: [Tally; CALLS.len()],
     ties: Ties,
     rounds: Rounds,
+    candidates: Candidates,
 }
 
 impl Tallies {
@@ -321,6 +341,7 @@ impl Tallies {
             calls: CALLS.map(Tally::new),
             ties: Ties::default(),
             rounds: Rounds::default(),
+            candidates: Candidates::default(),
         }
     }
 
@@ -336,6 +357,11 @@ impl Tallies {
             (Call::Decode(decoding), number) if decoding.posteriors.is_some() => {
                 self.rounds.count(number, answer.rounds.unwrap_or(0));
             }
+            (Call::ListDecode(list), 0) => {
+                let word = answer.symbols.expect("a word is found");
+                self.candidates.count(asked.on.built(), list, &word);
+            }
+            (Call::ListDecode(_), number) => self.candidates.turn_down(number),
             _ => (),
         }
         are_same
@@ -352,6 +378,7 @@ impl Tallies {
         let differences = self.calls.into_iter().map(Tally::finish).sum();
         self.ties.finish();
         self.rounds.finish();
+        self.candidates.finish();
         differences
     }
 }

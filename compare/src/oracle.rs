@@ -10,14 +10,14 @@ mod fec {
         include!(concat!(env!("OUT_DIR"), "/nb.rs"));
     }
 
-    /// With the Rust's own exp.
-    pub mod nb_own_exp {
-        include!(concat!(env!("OUT_DIR"), "/nb_own_exp.rs"));
+    /// With the Rust's own exp and ln.
+    pub mod nb_own {
+        include!(concat!(env!("OUT_DIR"), "/nb_own.rs"));
     }
 }
 
 pub use fec::nb::{GF, InfoSet, NbCode, RATES, code_at, degrees_for, even_degrees, mix};
-pub use fec::nb_own_exp::NbCode as OwnExpCode;
+pub use fec::nb_own::NbCode as OwnCode;
 
 /// Since `with_peeled_info` takes a code and gives another.
 impl Clone for NbCode {
@@ -35,8 +35,8 @@ impl Clone for NbCode {
     }
 }
 
-/// The same code for the Rust's own exp.
-impl From<&NbCode> for OwnExpCode {
+/// The same code for the Rust's own exp and ln.
+impl From<&NbCode> for OwnCode {
     fn from(code: &NbCode) -> Self {
         Self {
             n: code.n,

@@ -3,7 +3,7 @@
 
 use crate::decode_call::{Decoded, Decoding};
 use crate::float::{lent, plain};
-use crate::oracle::{NbCode, OwnExpCode};
+use crate::oracle::{NbCode, OwnCode};
 
 /// Decodings, and in how many of them something differs.
 pub struct OwnExp {
@@ -30,7 +30,7 @@ impl OwnExp {
 
     /// Counts a decoding, which came to `decoded` with document 01's exp.
     pub fn count(&mut self, built: &NbCode, decoding: &Decoding, decoded: &Decoded) {
-        let (word, rounds, posteriors) = OwnExpCode::from(built).decode_rounds(
+        let (word, rounds, posteriors) = OwnCode::from(built).decode_rounds(
             &plain(&decoding.metrics.floats),
             decoding.known as usize,
             decoding.limit as usize,

@@ -5,6 +5,8 @@ use crate::code::{Code, EDGES, LENGTHS, N, NAMES, ROW, START, VAR};
 use crate::codes;
 use crate::damage::{Change, at_random, changed, each_change, number_changes};
 use crate::decode_call::{Decoding, VECTORS};
+use crate::likelihoods::Likelihoods;
+use crate::list_decode_call::ListDecoding;
 use crate::on_code::{Asked, Call, Judged, Tallies, WORK};
 use crate::oracle::NbCode;
 use crate::random::Random;
@@ -82,9 +84,16 @@ fn compare_own_lengths(tallies: &mut Tallies, on: &Judged, calls: &[Call]) {
             }
         }
         let n = on.code.n.min(256);
-        if let Call::Decode(decoding) = call {
-            let wrong = with_wrong_lengths(decoding, n);
-            tallies.ask_all(on, wrong.into_iter().map(Call::Decode).collect());
+        match call {
+            Call::Decode(decoding) => {
+                let wrong = with_wrong_lengths(decoding, &parts_of_decoding(decoding, n));
+                tallies.ask_all(on, wrong.into_iter().map(Call::Decode).collect());
+            }
+            Call::ListDecode(list) => {
+                let wrong = with_wrong_lengths(list, &parts_of_list_decoding(n));
+                tallies.ask_all(on, wrong.into_iter().map(Call::ListDecode).collect());
+            }
+            _ => (),
         }
         for length in wrong(n) {
             tallies.ask_all(on, with_own_length(call, length));
@@ -92,27 +101,48 @@ fn compare_own_lengths(tallies: &mut Tallies, on: &Judged, calls: &[Call]) {
     }
 }
 
+/// A part of a decoding's own: its right length, and how it is given another.
+type Part<D> = (usize, fn(&mut D, usize));
+
 /// Another length of each of a decoding's own parts.
-fn with_wrong_lengths(decoding: &Decoding, n: usize) -> Vec<Decoding> {
+fn with_wrong_lengths<D: Clone>(decoding: &D, parts: &[Part<D>]) -> Vec<D> {
     let mut all = Vec::new();
-    let mut add = |right, set: &dyn Fn(&mut Decoding, usize)| {
+    for &(right, set) in parts {
         for length in wrong(right) {
             let mut decoding = decoding.clone();
             set(&mut decoding, length);
             all.push(decoding);
         }
-    };
-    add(32 * n, &|decoding, length| {
-        decoding.metrics.floats.resize(length, 0.0.into());
-    });
-    add(n, &|decoding, length| decoding.word = length);
-    add(VECTORS, &|decoding, length| decoding.vectors = length);
-    if decoding.posteriors.is_some() {
-        add(32 * n, &|decoding, length| {
-            decoding.posteriors = Some(length);
-        });
     }
     all
+}
+
+fn parts_of_decoding(decoding: &Decoding, n: usize) -> Vec<Part<Decoding>> {
+    let mut parts: Vec<Part<Decoding>> = vec![
+        (32 * n, |decoding, length| {
+            resize(&mut decoding.metrics, length)
+        }),
+        (n, |decoding, length| decoding.word = length),
+        (VECTORS, |decoding, length| decoding.vectors = length),
+    ];
+    if decoding.posteriors.is_some() {
+        parts.push((32 * n, |decoding, length| {
+            decoding.posteriors = Some(length);
+        }));
+    }
+    parts
+}
+
+fn parts_of_list_decoding(n: usize) -> [Part<ListDecoding>; 3] {
+    [
+        (32 * n, |list, length| resize(&mut list.metrics, length)),
+        (32 * n, |list, length| resize(&mut list.posteriors, length)),
+        (n, |list, length| list.word = length),
+    ]
+}
+
+fn resize(likelihoods: &mut Likelihoods, length: usize) {
+    likelihoods.floats.resize(length, 0.0.into());
 }
 
 /// The call with another length of each of its own parts that must have n entries, but a decoding.
@@ -143,7 +173,8 @@ fn with_own_length(call: &Call, length: usize) -> Vec<Call> {
         Call::WithPeeledInfo { prefer } => vec![Call::WithPeeledInfo {
             prefer: resized(&prefer, length, 0),
         }],
-        Call::Degree { .. } | Call::K | Call::N | Call::Decode(_) => vec![],
+        Call::Degree { .. } | Call::K | Call::N => vec![],
+        Call::Decode(_) | Call::ListDecode(_) => vec![],
     }
 }
 

@@ -52,7 +52,8 @@ impl Rounds {
     }
 }
 
-fn listed<T: std::fmt::Display>(names: &[T], counts: &[u64]) -> String {
+/// Counts beside their names.
+pub fn listed<T: std::fmt::Display>(names: &[T], counts: &[u64]) -> String {
     let named = |(name, count)| format!("{name}: {count}");
     let all: Vec<String> = names.iter().zip(counts).map(named).collect();
     all.join(", ")

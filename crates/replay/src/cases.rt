@@ -4,7 +4,7 @@ ghost use Prim.Native.Nat.{_<_};
 use crate::print;
 
 // How many there are.
-pub const CALLS: usize = 16;
+pub const CALLS: usize = 17;
 
 pub enum Call {
     Mul,
@@ -28,6 +28,7 @@ pub enum Ask {
     N,
     InfoPositions,
     PeelPicks,
+    ListDecode,
 }
 
 pub enum Named {
@@ -95,6 +96,9 @@ fn ask_named(word: &[u8]) -> Named {
     if check::same(word, b"peel_picks") {
         return Named::Is(Call::OnCode(Ask::PeelPicks));
     }
+    if check::same(word, b"list_decode") {
+        return Named::Is(Call::OnCode(Ask::ListDecode));
+    }
     Named::Unknown
 }
 
@@ -122,6 +126,7 @@ fn print_name_of_ask(ask: Ask) {
         Ask::N => print::text(b"n"),
         Ask::InfoPositions => print::text(b"info_positions"),
         Ask::PeelPicks => print::text(b"peel_picks"),
+        Ask::ListDecode => print::text(b"list_decode"),
     }
 }
 
@@ -218,13 +223,14 @@ fn print_found(ask: Ask) {
         Ask::N => print::text(b", n"),
         Ask::InfoPositions => print::text(b", count of positions"),
         Ask::PeelPicks => print::text(b", count of picks"),
+        Ask::ListDecode => print::text(b", count of rounds"),
     }
 }
 
 // The output part of a call that has one.
 fn print_part(ask: Ask) {
     match ask {
-        Ask::Encode => print::text(b", digest of word"),
+        Ask::Encode | Ask::ListDecode => print::text(b", digest of word"),
         Ask::InfoOf => print::text(b", digest of syms"),
         Ask::InfoPositions => print::text(b", digest of positions"),
         Ask::PeelPicks => print::text(b", digest of picks"),
@@ -234,7 +240,7 @@ fn print_part(ask: Ask) {
 
 // The call's place in a tally.
 pub fn index(call: Call) -> usize
-    ensures { λ r. ⌜ r < 16 ⌝ }
+    ensures { λ r. ⌜ r < 17 ⌝ }
 {
     match call {
         Call::Mul => 0,
@@ -250,7 +256,7 @@ pub fn index(call: Call) -> usize
 }
 
 fn index_of_ask(ask: Ask) -> usize
-    ensures { λ r. ⌜ r < 16 ⌝ }
+    ensures { λ r. ⌜ r < 17 ⌝ }
 {
     match ask {
         Ask::Encode => 5,
@@ -261,5 +267,6 @@ fn index_of_ask(ask: Ask) -> usize
         Ask::N => 10,
         Ask::InfoPositions => 11,
         Ask::PeelPicks => 12,
+        Ask::ListDecode => 16,
     }
 }

@@ -1,7 +1,8 @@
-// The calls that decode metrics, each made with the numbers of a line, as the head of data/decoding.txt says. A line with too few or too many numbers is not
-// understood, nor one with a code, a damage or metrics that are not understood, with a code that `new` refuses, or with KNOWN or LIMIT above 32 bits.
-// Before a call every entry of its output parts and of its work parts is 1. Its answers are the number, the rounds, the digests of word and posteriors, and
-// those of its work parts h, pivots and vectors, with 0 for the posteriors where a call has none.
+// The calls that decode metrics, each made with the numbers of a line, as the heads of data/decoding.txt and data/list_decoding.txt say. A line with too few or
+// too many numbers is not understood, nor one with a code, a damage, metrics or posteriors that are not understood, with a code that `new` refuses, or with
+// KNOWN or LIMIT above 32 bits that `decode_soft` or `decode` would be given. Before a call every entry of its output parts and of its work parts is 1. The
+// answers of those two are the number, the rounds, the digests of word and posteriors, and those of the work parts h, pivots and vectors, with 0 for the
+// posteriors where a call has none; those of `list_decode` are as of the calls on words, with the rounds as what it finds.
 ghost use mathlib.Core.Path.{_≡_};
 ghost use Prim.Native.Nat.{_≤_};
 ghost use lib.ListN.{length};
@@ -14,7 +15,6 @@ use crate::compare;
 use crate::damage;
 use crate::digest;
 use crate::metrics;
-use crate::metrics::Metrics;
 use crate::symbols;
 use crate::word_calls;
 use decoders::Decoding;
@@ -28,11 +28,12 @@ struct Sent {
     next: u64,
 }
 
-// A damaged code, and metrics at the front of 8,224 entries.
+// A damaged code, metrics at the front of 8,224 entries, and the word that was sent, at the front of 257.
 struct Given {
     is_understood: bool,
     built: Built,
     metrics: [f32; 8224],
+    word: [u8; 257],
 }
 
 // decode_soft CODE DAMAGE RULE DRAWS SPREAD PEAK KNOWN LIMIT NUMBER ROUNDS WORD POSTERIORS
@@ -51,6 +52,39 @@ pub fn decode(name: &[u8], line: u64, numbers: &[u64]) -> Outcome {
     }
     let listed = [numbers[15], numbers[16], numbers[17], 0];
     replayed(name, line, Call::Decode, &numbers[0..15], listed)
+}
+
+// list_decode CODE DAMAGE RULE DRAWS SPREAD PEAK KNOWN RULE DRAWS SPREAD PEAK WIDTH NUMBER ROUNDS WORD
+pub fn list_decode(name: &[u8], line: u64, numbers: &[u64]) -> Outcome {
+    if numbers.len() != 22 {
+        return Outcome::Misread;
+    }
+    if numbers[0] > 257 {
+        return Outcome::Misread;
+    }
+    let n = numbers[0] as usize;
+    let given = code_and_metrics(n, &numbers[0..14]);
+    let sent = given.word;
+    let around = metrics::of_line(numbers[14], numbers[16], numbers[17], numbers[15], sent, n);
+    if !(given.is_understood & around.is_understood) {
+        return Outcome::Misread;
+    }
+    let built = given.built;
+    let metrics = given.metrics;
+    let posteriors = around.numbers;
+    let width = numbers[18] as usize;
+    let mut word = [1u8; 257];
+    let ours = list_decoded(built, metrics, posteriors, width, &mut word[0..n]);
+    word_calls::compared(
+        name,
+        line,
+        Ask::ListDecode,
+        &numbers[0..19],
+        ours,
+        numbers[19],
+        numbers[20],
+        numbers[21],
+    )
 }
 
 // CODE DAMAGE RULE DRAWS SPREAD PEAK KNOWN LIMIT, and then what the line lists
@@ -85,28 +119,16 @@ fn code_and_metrics(n: usize, l: &[u64]) -> Given
     requires { ⌜ length (now l) ≡ 14 ⌝ }
 {
     let whole = code::of_line(&l[0..6]);
-    let made = metrics_of(whole, n, &l[9..14]);
-    let built = damage::damaged(whole, l[6], l[7], l[8]);
+    let sent = sent_word(whole, n, l[13], l[10]);
+    let word = sent.word;
+    let made = metrics::of_line(l[9], l[11], l[12], sent.next, word, n);
     let metrics = made.numbers;
+    let built = damage::damaged(whole, l[6], l[7], l[8]);
     Given {
-        is_understood: built.is_understood & made.is_understood,
+        is_understood: built.is_understood & (made.is_understood & sent.is_understood),
         built,
         metrics,
-    }
-}
-
-// RULE DRAWS SPREAD PEAK KNOWN
-fn metrics_of(b: Built, n: usize, l: &[u64]) -> Metrics
-    requires { ⌜ n ≤ 257 ⌝ }
-    requires { ⌜ length (now l) ≡ 5 ⌝ }
-{
-    let sent = sent_word(b, n, l[4], l[1]);
-    let word = sent.word;
-    let made = metrics::of_line(l[0], l[2], l[3], sent.next, word, n);
-    let numbers = made.numbers;
-    Metrics {
-        is_understood: made.is_understood & sent.is_understood,
-        numbers,
+        word,
     }
 }
 
@@ -240,6 +262,57 @@ fn decoded_word(b: Built, metrics: &[f32], known: u32, limit: u32, word: &mut [u
         &mut vectors,
     );
     answers(decoding, word, 0, &h, &pivots, &vectors)
+}
+
+// Metrics and posteriors of as many symbols as the word has stand at their fronts.
+fn list_decoded(
+    b: Built,
+    metrics: [f32; 8224],
+    posteriors: [f32; 8224],
+    width: usize,
+    word: &mut [u8],
+) -> [u64; 5]
+    requires { ⌜ length (now word) ≤ 257 ⌝ }
+{
+    let var = b.var;
+    let coef = b.coef;
+    let row = b.row;
+    let start = b.start;
+    let col = b.col;
+    let order = b.order;
+    let parity = b.parity;
+    let info = b.info;
+    let a = b.a;
+    let code = b.code;
+    let end = 32 * word.len();
+    let mut h = [1u8; 65536];
+    let mut pivots = [1u16; 256];
+    let decoding = decoders::list_decode(
+        code,
+        &var,
+        &coef,
+        &row,
+        &start,
+        &col,
+        &order,
+        &parity,
+        &info,
+        &a,
+        &metrics[0..end],
+        &posteriors[0..end],
+        width,
+        word,
+        &mut h,
+        &mut pivots,
+    );
+    let answer = decoding.answer;
+    [
+        number_of(answer),
+        decoding.rounds as u64,
+        digest::of_u8(word),
+        digest::of_u8(&h),
+        digest::of_u16(&pivots),
+    ]
 }
 
 // In the order of `cases::print_answer_of_decoding`.

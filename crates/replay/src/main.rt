@@ -25,6 +25,7 @@ fn main() {
     run::replay(b"words.txt");
     run::replay(b"peeling.txt");
     run::replay(b"decoding.txt");
+    run::replay(b"list_decoding.txt");
     // Wrong on purpose. What is printed of it shows that a wrong case would be seen in the others.
     run::replay(b"wrong.txt");
 }

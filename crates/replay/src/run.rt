@@ -77,9 +77,9 @@ fn misread(name: &[u8], line: u64, words: &[u8], t: Tally) -> Tally {
     t.with_misread()
 }
 
-// The numbers stand after the call's name. No call has more than 19, as `decode_soft` and a `draws` of 17 have.
+// The numbers stand after the call's name. No call has more than the 22 of `list_decode`.
 fn replay_case(name: &[u8], line: u64, call: Call, words: &[u8], after: Cursor) -> Outcome {
-    let mut numbers = [0u64; 19];
+    let mut numbers = [0u64; 22];
     let read = list::read_numbers(words, after, &mut numbers);
     if !read.is_whole {
         return Outcome::Misread;
@@ -112,5 +112,6 @@ fn replay_ask(name: &[u8], line: u64, ask: Ask, numbers: &[u64]) -> Outcome {
         Ask::N => word_calls::n(name, line, numbers),
         Ask::InfoPositions => word_calls::info_positions(name, line, numbers),
         Ask::PeelPicks => peeling_calls::peel_picks(name, line, numbers),
+        Ask::ListDecode => decoding_calls::list_decode(name, line, numbers),
     }
 }

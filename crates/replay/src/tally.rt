@@ -69,6 +69,7 @@ pub fn print_tally(name: &[u8], t: Tally) {
     print_count(name, t, Call::WithPeeledInfo);
     print_count(name, t, Call::DecodeSoft);
     print_count(name, t, Call::Decode);
+    print_count(name, t, Call::OnCode(Ask::ListDecode));
     if t.all == 0 {
         print::about(name, b": no case\n");
     }
