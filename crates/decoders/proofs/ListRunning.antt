@@ -18,6 +18,7 @@ use Rattle.candidates.specs.Alternatives.{likeliestAt, differenceAt, marginAt, 
 use Rattle.candidates.specs.GeneratorRows.{column, rowOf}
 use Rattle.candidates.specs.HeldWord.{heldBase, heldSlots, heldGenerator, heldWord}
 use Rattle.candidates.specs.Tried.{tried}
+use Rattle.candidates.proofs.RowsOf.{column-small}
 use Rattle.candidates.proofs.Slots.{least-ext, least-inside, difference-small}
 use Rattle.candidates.proofs.Stepping.{tried-ext}
 
@@ -30,6 +31,12 @@ module _ (n r : ℕ) (parity info a : List ℕ) (posteriors : List Float) where
       → encodedBy n r (n - r) parity info a (take (n - r) syms) ≡ heldBase n r parity info a posteriors
   unfolding heldBase
   base-is syms₀ syms e = ap (encodedBy n r k parity info a) (fill-front (likeliestAt posteriors (nth info)) k syms₀ syms e)
+
+  pub generator-small : (width j v : ℕ) → nth (heldGenerator n r parity info a posteriors width j) v < 32
+  unfolding heldGenerator
+  generator-small width j v =
+      let s = nth (heldSlots n r parity info a posteriors width) j in
+      column-small n r k parity info a s (differenceAt posteriors (nth info) s) (difference-small posteriors (nth info) s) v
 
   module _ (width w : ℕ) (least : w ≡ min width (n - r)) where
     pub slots-are : (margins₀ margins : List Float) → margins ≡ laid (values (n - r) (marginAt posteriors (nth info))) margins₀

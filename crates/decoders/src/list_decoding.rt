@@ -43,7 +43,19 @@ pub fn run(
     let mut slots = [0u8; 16];
     least_sure(k, &margins, &mut slots[..w]);
     encode(r, k, parity, info, a, &syms[..k], word);
-    generators(n, r, k, parity, info, a, &slots[..w], &differences, h);
+    let mut counts = [0u16; 16];
+    generators(
+        n,
+        r,
+        k,
+        parity,
+        info,
+        a,
+        &slots[..w],
+        &differences,
+        &mut counts,
+        h,
+    );
     let mut current = [0u8; 256];
-    try_all(w, metrics, h, &mut current[..n], word);
+    try_all(w, metrics, &counts, h, &mut current[..n], word);
 }

@@ -1,7 +1,7 @@
 -- Laws of what passes a test: as a loop that writes it to the front of a part, and which numbers are there.
 -- Assumes nothing.
 use Prim.Native.Nat.{ℕ, zero, suc, _+_, _<_, _≤_}
-use mathlib.Core.Path.{_≡_, refl, ap, sym, _∙_}
+use mathlib.Core.Path.{_≡_, refl, ap, ap₂, sym, _∙_}
 use mathlib.Core.Bool.{Bool, true, false, not, _&&_}
 use mathlib.Core.List.{List, [], _∷_, _++_, append-assoc, append-nil}
 use mathlib.Core.Logic.{⊎-elim, _⊎_}
@@ -11,10 +11,12 @@ use native.Mathlib.Omega.{arith}
 use lib.ListN.{length, getD, set, take, length-append, List·getD-append}
 use lib.Seq.{take-suc-set, getD-append-seam, getD-at}
 use Rattle.lists.specs.Choice.{pick}
+use Rattle.lists.specs.Iter.{iter}
 use Rattle.lists.specs.Keep.{keep, keepBelow}
 use Rattle.lists.proofs.Cases.{true-or-false}
 use Rattle.lists.proofs.Choice.{pick-true, pick-false}
 use Rattle.lists.proofs.Fold.{take-more}
+use Rattle.lists.proofs.Iter.{iter-ext}
 use Rattle.lists.proofs.Rising.{rises}
 
 -- ---- of a list
@@ -221,3 +223,26 @@ keep-keepBelow f test (suc m) =
     one : (t : Bool) → f m ≡ t → keep test (pick (f m) (m ∷ []) []) ≡ pick (f m && test m) (m ∷ []) []
     one true e = rw (e, pick-true {A = List ℕ} true (m ∷ []) [] refl) (keep-one test m)
     one false e = rw (e, pick-false {A = List ℕ} false (m ∷ []) [] refl)
+
+-- a loop that passes over what fails a test is one over what passes it
+pub keepBelow-iter {ℓ} : {S : Type ℓ} (test : ℕ → Bool) (f : ℕ → S → S) (m : ℕ) (s : S)
+    → iter m (λ k t. pick (test k) (f k t) t) s ≡ iter (length (keepBelow test m)) (λ e t. f (getD (keepBelow test m) e 0) t) s
+unfolding iter
+keepBelow-iter test f zero s = ap (λ (n : ℕ). iter n (λ e t. f (getD (keepBelow test 0) e 0) t) s) (sym (keepBelow-empty test))
+keepBelow-iter {S = S} test f (suc m) s =
+    ⊎-elim
+    (λ y.
+    let l = keepBelow test m in
+    let e = keepBelow-yes test m y in
+    pick-true (test m) (f m done) done y
+    ∙ ap (f m) (keepBelow-iter test f m s)
+    ∙ ap₂ f (sym (getD-append-seam l m [] 0)) (iter-ext (length l) (λ e t. f (getD l e 0) t) (λ e t. f (getD (l ++ m ∷ []) e 0) t) s (λ e h t. ap (λ (k : ℕ). f k t) (sym (List·getD-append l (m ∷ []) 0 e h))))
+    ∙ ap (λ (n : ℕ). iter n (λ e t. f (getD (l ++ m ∷ []) e 0) t) s) (sym (length-append l (m ∷ []) ∙ add-one (length l)))
+    ∙ ap (λ (k : List ℕ). iter (length k) (λ e t. f (getD k e 0) t) s) (sym e))
+    (λ n.
+    pick-false (test m) (f m done) done n ∙ keepBelow-iter test f m s
+    ∙ ap (λ (k : List ℕ). iter (length k) (λ e t. f (getD k e 0) t) s) (sym (keepBelow-no test m n)))
+    (true-or-false (test m))
+  where
+    done : S
+    done = iter m (λ k t. pick (test k) (f k t) t) s
