@@ -16,13 +16,13 @@ use Rattle.lists.proofs.InOrder.{Ordered}
 use Rattle.elimination.specs.Graph.{Graph}
 use Rattle.words.specs.Encoding.{informationOf, infoSymbols}
 use Rattle.words.proofs.Encodings.{info-at}
+use Rattle.words.proofs.Sums.{sum-length}
 use Rattle.candidates.specs.Alternatives.{likeliestAt, secondAt, differenceAt, marginAt, before, leastSure}
 use Rattle.candidates.specs.Gray.{gray, digit, combination}
 use Rattle.candidates.specs.ListWord.{baseWord, alternatives, slotOf, generator}
 use Rattle.candidates.proofs.GrayCode.{combination-start, combination-yes, combination-no, candidates-are, each-tried}
 use Rattle.candidates.proofs.ListWords.{base-length, base-at, slot-inside, added-same, added-other, to-second, candidate}
 use Rattle.candidates.proofs.Stepping.{digit-cases}
-use Rattle.words.proofs.Sums.{sum-length}
 
 module _ (g : Graph) (order : List ℕ) (posteriors : List Float) (width : ℕ) where
   abbrev positions : List ℕ

@@ -22,10 +22,10 @@ use Rattle.lists.proofs.EachOnce.{eachOnce-has}
 use Rattle.lists.proofs.Iter.{iter-ext}
 use Rattle.field.proofs.Sum.{mod2}
 use Rattle.words.specs.Linear.{sumOf}
+use Rattle.words.proofs.Sums.{sum-twice, sum-swap}
 use Rattle.candidates.specs.Gray.{gray, digit, combination}
 use Rattle.candidates.specs.Tried.{tried}
 use Rattle.candidates.proofs.Stepping.{digit-cases, trailing-even, trailing-odd, trailing-below, word-start, word-on}
-use Rattle.words.proofs.Sums.{sum-twice, sum-swap}
 
 -- ---- digits
 

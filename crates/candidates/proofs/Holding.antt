@@ -17,14 +17,15 @@ use Rattle.lists.proofs.Blank.{blank-at}
 use Rattle.lists.proofs.Cases.{same-or-not, less-or-not}
 use Rattle.lists.proofs.Choice.{pick-same, pick-other}
 use Rattle.lists.proofs.Values.{values-length, values-ext}
+use Rattle.lists.proofs.Placed.{placed-length, placed-other, placed-at}
 use Rattle.field.specs.Field.{product}
 use Rattle.field.proofs.FieldSum.{sum-ext, sum-one}
 use Rattle.field.proofs.Product.{product-comm, product-zero}
-use Rattle.graph.specs.declared.Code.{Code}
-use Rattle.graph.specs.Parts.{Parts}
 use Rattle.elimination.specs.Graph.{Graph}
 use Rattle.elimination.specs.Held.{held}
 use Rattle.elimination.proofs.Infos.{info-no-pivot, infos-ascend, pivots-distinct}
+use Rattle.graph.specs.declared.Code.{Code}
+use Rattle.graph.specs.Parts.{Parts}
 use Rattle.lent.specs.Misencoded.{graphIn, reducedIn}
 use Rattle.lent.specs.Sound.{Sound}
 use Rattle.lent.proofs.Encoded.{formed-small, formed-inside}
@@ -34,7 +35,6 @@ use Rattle.words.specs.Linear.{multipleOf}
 use Rattle.words.proofs.Encodings.{encoding-is}
 use Rattle.words.proofs.LentWords.{positions-length, positions-at, positions-inside, parity-inside, factor-at, encoded-is}
 use Rattle.words.proofs.Linear.{encoding-multiple}
-use Rattle.lists.proofs.Placed.{placed-length, placed-other, placed-at}
 use Rattle.candidates.specs.Alternatives.{likeliestAt, differenceAt, marginAt, leastSure}
 use Rattle.candidates.specs.GeneratorRows.{column}
 use Rattle.candidates.specs.HeldWord.{heldBase, heldSlots, heldGenerator, heldWord}

@@ -17,28 +17,28 @@ use Rattle.lists.specs.Values.{values}
 use Rattle.lists.proofs.Cases.{same-or-not}
 use Rattle.lists.proofs.Values.{values-at, values-ext}
 use Rattle.field.proofs.Sum.{xor-cancel}
-use Rattle.graph.specs.declared.Code.{Code}
-use Rattle.graph.specs.Parts.{Parts}
 use Rattle.elimination.specs.Elimination.{reduced}
 use Rattle.elimination.specs.Graph.{Graph}
 use Rattle.elimination.specs.Held.{held}
 use Rattle.elimination.proofs.Infos.{info-inside}
+use Rattle.graph.specs.declared.Code.{Code}
+use Rattle.graph.specs.Parts.{Parts}
 use Rattle.lent.specs.Misencoded.{graphIn}
-use Rattle.vectors.specs.Decision.{decision}
-use Rattle.vectors.specs.Vector.{vector}
-use Rattle.vectors.proofs.LikeliestTwo.{two-small, likeliest-decision}
 use Rattle.words.specs.Encoding.{informationOf, encoding, infoSymbols}
 use Rattle.words.specs.Linear.{sumOf}
 use Rattle.words.specs.Word.{Word}
 use Rattle.words.proofs.Encodings.{encoding-length, encoding-info, info-at}
 use Rattle.words.proofs.Theorem.{Words}
+use Rattle.words.proofs.Sums.{sum-at, sum-length}
+use Rattle.vectors.specs.Decision.{decision}
+use Rattle.vectors.specs.Vector.{vector}
+use Rattle.vectors.proofs.LikeliestTwo.{two-small, likeliest-decision}
 use Rattle.candidates.specs.Alternatives.{likeliestAt, secondAt, differenceAt, marginAt}
 use Rattle.candidates.specs.ListWord.{unitCodeword, baseWord, alternatives, slotOf, generator, listWord}
 use Rattle.candidates.specs.Tried.{Tried, beginning, tried}
 use Rattle.candidates.proofs.Slots.{least-inside, difference-small}
 use Rattle.candidates.proofs.BestCandidate.{best}
 use Rattle.candidates.proofs.Stepping.{trailing-below, tried-first, word-keeps}
-use Rattle.words.proofs.Sums.{sum-at, sum-length}
 use Rattle.candidates.proofs.Units.{multiple-same, multiple-other}
 
 module _ (g : Graph) (order : List ℕ) (posteriors : List Float) where

@@ -12,8 +12,8 @@ use Rattle.lists.specs.InOrder.{inOrder}
 use Rattle.lists.specs.Laid.{laid}
 use Rattle.lists.specs.Values.{values}
 use Rattle.lists.proofs.Laid.{fill-at, fill-front}
-use Rattle.vectors.specs.Vector.{at}
 use Rattle.words.specs.EncoderParts.{encodedBy}
+use Rattle.vectors.specs.Vector.{at}
 use Rattle.candidates.specs.Alternatives.{likeliestAt, differenceAt, marginAt, before, leastSure}
 use Rattle.candidates.specs.GeneratorRows.{column, rowOf}
 use Rattle.candidates.specs.HeldWord.{heldBase, heldSlots, heldGenerator, heldWord}

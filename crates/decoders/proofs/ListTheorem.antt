@@ -22,23 +22,23 @@ use Rattle.calls.specs.Refusal.{refusal, misfit}
 use Rattle.calls.specs.Parts.{answered, written}
 use Rattle.calls.proofs.Refusal as Refusal
 use Rattle.calls.proofs.Parts as Left
+use Rattle.elimination.specs.Graph.{Graph}
 use Rattle.graph.specs.declared.Answer.{Answer}
 use Rattle.graph.specs.declared.Answer.the-variants.{Done, Refused}
 use Rattle.graph.specs.declared.Code.{Code}
 use Rattle.graph.specs.Parts.{Parts}
-use Rattle.elimination.specs.Graph.{Graph}
 use Rattle.lent.specs.Misencoded.{graphIn}
 use Rattle.lent.specs.LentCode.{MatrixWork, refusals}
 use Rattle.lent.specs.Sound.{Sound}
 use Rattle.lent.proofs.Sound.{passed, not-refused}
-use Rattle.vectors.specs.Decision.{decision}
-use Rattle.vectors.specs.Vector.{at, vector}
-use Rattle.vectors.proofs.Stored.{vector-at}
 use Rattle.words.specs.Encoding.{informationOf, encoding, infoSymbols}
 use Rattle.words.specs.OnCode.{Filled, filled}
 use Rattle.words.specs.Word.{Word}
 use Rattle.words.proofs.LentWords.{positions-length, positions-at, positions-inside}
 use Rattle.words.proofs.Theorem.{words}
+use Rattle.vectors.specs.Decision.{decision}
+use Rattle.vectors.specs.Vector.{at, vector}
+use Rattle.vectors.proofs.Stored.{vector-at}
 use Rattle.candidates.specs.Alternatives.{marginAt, before, leastSure}
 use Rattle.candidates.specs.ListWord.{baseWord, alternatives, generator, listWord}
 use Rattle.candidates.specs.Tried.{tried}

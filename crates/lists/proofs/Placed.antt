@@ -10,9 +10,9 @@ use lib.ListN.{length, set, length-set}
 use lib.Seq.{getD-set-same, getD-set-other, set-out}
 use Rattle.lists.specs.Iter.{iter}
 use Rattle.lists.specs.Entry.{nth}
+use Rattle.lists.specs.Placed.{placed}
 use Rattle.lists.proofs.Cases.{same-or-not, less-or-not}
 use Rattle.lists.proofs.Iter.{iter-start, iter-on, iter-end, iter-ext}
-use Rattle.lists.specs.Placed.{placed}
 
 pub set-small : (l : List ℕ) (i a b : ℕ) → a < b → ((j : ℕ) → nth l j < b) → (j : ℕ) → nth (set l i a) j < b
 set-small l i a b h f j = go (same-or-not j i)

@@ -16,13 +16,13 @@ use Rattle.field.specs.Field.{product}
 use Rattle.field.specs.FieldSum.{fieldSum}
 use Rattle.field.proofs.FieldSum.{sum-ext, sum-past}
 use Rattle.field.proofs.Product.{product-zero, product-mod-right}
-use Rattle.graph.specs.declared.Code.{Code}
 use Rattle.elimination.specs.Elimination.{infos, table}
 use Rattle.elimination.specs.Held.{held}
-use Rattle.lent.specs.Misencoded.{graphIn, reducedIn}
-use Rattle.graph.specs.Parts.{Parts}
-use Rattle.lent.specs.Sound.{Sound}
 use Rattle.elimination.proofs.Infos.{info-inside, table-fits}
+use Rattle.graph.specs.declared.Code.{Code}
+use Rattle.graph.specs.Parts.{Parts}
+use Rattle.lent.specs.Misencoded.{graphIn, reducedIn}
+use Rattle.lent.specs.Sound.{Sound}
 use Rattle.lent.proofs.Sound.{sound-columns, sound-infos, sound-eliminated}
 use Rattle.words.specs.Encoding.{informationOf, symbol, paritySymbol, encoding, infoSymbols}
 use Rattle.words.specs.EncoderParts.{EncoderParts, encodedBy}

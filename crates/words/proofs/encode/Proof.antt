@@ -12,10 +12,10 @@ use lib.Dec.{eqb}
 use lib.ListN.{length}
 use Rattle.calls.specs.Refusal.{refusal, misfit}
 use Rattle.calls.proofs.Refusal.{alike, refusal-hit, refusal-miss, refusal-none}
-use Rattle.lent.specs.LentCode.{MatrixWork, lentMatrix, refusals}
 use Rattle.graph.specs.Parts.{Parts, lent}
-use Rattle.lent.specs.Sound.{Sound}
 use Rattle.graph.specs.declared.Answer.the-variants.{Refused}
+use Rattle.lent.specs.LentCode.{MatrixWork, lentMatrix, refusals}
+use Rattle.lent.specs.Sound.{Sound}
 use Rattle.lent.proofs.Sound.{passed, sound-columns}
 use Rattle.words.specs.Encode.{tooManySymbols, encode}
 use Rattle.words.specs.EncoderParts.{encodedBy}

@@ -14,11 +14,11 @@ use lib.ListN.{length, take, drop}
 use lib.Seq.{take-all}
 use Rattle.lists.specs.Entry.{nth}
 use Rattle.words.specs.Linear.{sumOf}
+use Rattle.words.proofs.Sums.{sum-length, sum-small}
 use Rattle.candidates.specs.GeneratorRows.{rowOf, support}
 use Rattle.candidates.specs.Score.{scoreAfter}
 use Rattle.candidates.specs.Tried.{Tried, tried}
 use Rattle.candidates.proofs.RowsOf.{row-lent, row-length}
-use Rattle.words.proofs.Sums.{sum-length, sum-small}
 use Rattle.candidates.proofs.Stepping.{trailing-below}
 use Rattle.candidates.proofs.TriedSteps.{state, tried-start, tried-better, tried-kept}
 use Rattle.candidates.proofs.gray.try_all.Statement.{statement}

@@ -5,8 +5,8 @@ use native.Mathlib.Omega.{arith}
 use borrow.Author.Needs.{needs}
 use denote.Ref.{now}
 use lib.ListN.{length, length-replicate}
-use Rattle.lists.proofs.Placed.{placed-length}
 use Rattle.lists.specs.Placed.{placed}
+use Rattle.lists.proofs.Placed.{placed-length}
 use Rattle.field.proofs.Logarithms.{exps, logs, tabled}
 use Rattle.words.specs.EncoderParts.{encodedBy}
 use Rattle.words.proofs.encoder.encode.Statement.{statement}

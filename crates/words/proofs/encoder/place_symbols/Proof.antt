@@ -6,9 +6,9 @@ use native.Mathlib.Omega.{arith}
 use borrow.Author.Needs.{needs}
 use denote.Ref.{now}
 use lib.ListN.{length, set, length-set}
-use Rattle.lists.proofs.Placed.{placed-start, placed-on, placed-end}
 use Rattle.lists.specs.Entry.{nth}
 use Rattle.lists.specs.Placed.{placed}
+use Rattle.lists.proofs.Placed.{placed-start, placed-on, placed-end}
 use Rattle.words.specs.Encoding.{symbol}
 use Rattle.words.proofs.encoder.place_symbols.Statement.{statement}
 use Rattle.words.proofs.encoder.place_symbols.Tie as tie
