@@ -1,9 +1,9 @@
 -- One word added to another in place with the running score, as a loop does it over the positions where the other is not 0.
 -- Assumes nothing.
 use Prim.Native.Nat.{ℕ, suc, _+_, _<_}
-use mathlib.Core.Path.{_≡_, refl, sym, ap, subst, _∙_}
+use mathlib.Core.Path.{_≡_, sym, ap, subst, _∙_}
 use mathlib.Core.Logic.{_≢_, ⊎-elim}
-use mathlib.Core.Bool.{Bool, true, false, not}
+use mathlib.Core.Bool.{not}
 use mathlib.Core.List.{List}
 use native.Mathlib.Nat.{le-refl}
 use native.Mathlib.Numerals.{add-one}
@@ -18,7 +18,7 @@ use Rattle.lists.specs.Each.{each}
 use Rattle.lists.specs.Entry.{nth}
 use Rattle.lists.specs.Iter.{iter}
 use Rattle.lists.proofs.Cases.{same-or-not}
-use Rattle.lists.proofs.Choice.{pick-same, pick-other}
+use Rattle.lists.proofs.Choice.{pick-not, pick-same, pick-other}
 use Rattle.lists.proofs.Each.{each-length, each-at, each-after}
 use Rattle.lists.proofs.Iter.{iter-start, iter-on, iter-end, iter-keeps, iter-ext}
 use Rattle.lists.proofs.Keep.{keepBelow-passes, keepBelow-iter}
@@ -30,11 +30,6 @@ use Rattle.candidates.specs.Score.{metricAt, changeTurn, scoreAfter}
 pub support-inside : (g : List ℕ) (e : ℕ) → e < length (support g) → nth (support g) e < length g
 unfolding support
 support-inside g e h = keepBelow-passes (λ v. not (eqb (nth g v) 0)) (length g) e h .0
-
-other {ℓ} : {A : Type ℓ} (b : Bool) (x y : A) → pick b x y ≡ pick (not b) y x
-unfolding pick
-other true x y = refl
-other false x y = refl
 
 module _ (metrics : List Float) (g : List ℕ) where
   -- position v of the word at hand changed, with the score
@@ -105,7 +100,7 @@ module _ (metrics : List Float) (g : List ℕ) where
     -- ---- over the support alone
 
     swapped : (v : ℕ) (t : List ℕ × Float) → turn v t ≡ pick (not (eqb (nth g v) 0)) (flipAt v t) t
-    swapped v t = other (eqb (nth g v) 0) t (flipAt v t)
+    swapped v t = pick-not (eqb (nth g v) 0) t (flipAt v t)
 
     pub flips-end : length g ≡ length word₀ → (e : ℕ) (t : List ℕ × Float) → e ≡ length (support g) → t ≡ iter e (λ e. flipAt (nth (support g) e)) (word₀, s₀)
         → (t .1 ≡ scoreAfter metrics g word₀ s₀) × (t .0 ≡ sumOf word₀ g)

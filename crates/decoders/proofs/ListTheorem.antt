@@ -23,7 +23,6 @@ use Rattle.calls.specs.Parts.{answered, written}
 use Rattle.calls.proofs.Refusal as Refusal
 use Rattle.calls.proofs.Parts as Left
 use Rattle.elimination.specs.Graph.{Graph}
-use Rattle.graph.specs.declared.Answer.{Answer}
 use Rattle.graph.specs.declared.Answer.the-variants.{Done, Refused}
 use Rattle.graph.specs.declared.Code.{Code}
 use Rattle.graph.specs.Parts.{Parts}
@@ -48,11 +47,7 @@ use Rattle.candidates.proofs.LeastSure.{least-sure}
 use Rattle.candidates.proofs.ListWords.{OneOfTwo, candidate, candidate-encoding, list-symbols, list-none, list-word}
 use Rattle.decoders.specs.declared.Decoding.{Decoding}
 use Rattle.decoders.specs.ListDecode.{listLengths, notFinite, unlistable, listDecode}
-
--- whether an answer is a word
-abbrev isDone : Answer → Bool
-isDone Done = true
-isDone (Refused k) = false
+use Rattle.decoders.proofs.Answers.{done-not-refused}
 
 -- the two answers
 abbrev turned : ℕ → Decoding
@@ -191,5 +186,5 @@ module _ (c : Code) (p : Parts) (metrics posteriors : List Float) (width : ℕ) 
       list-decodes
       (⊎-elim
       (λ e. e)
-      (λ n. absurd (true≢false (ap isDone (sym z ∙ ap (λ (a : Decoding). a .answer) (Left.refused number turned taken n)))))
+      (λ n. absurd (done-not-refused number (sym z ∙ ap (λ (a : Decoding). a .answer) (Left.refused number turned taken n))))
       (same-or-not number 0))

@@ -21,21 +21,20 @@ use Rattle.calls.specs.Refusal.{refusal, misfits, misfit}
 use Rattle.calls.specs.Parts.{afterRounds, answered, written, counted}
 use Rattle.calls.proofs.Refusal as Refusal
 use Rattle.calls.proofs.Parts as Left
-use Rattle.graph.specs.declared.Answer.{Answer}
+use Rattle.elimination.specs.Held.{held}
+use Rattle.elimination.proofs.Infos.{info-inside}
 use Rattle.graph.specs.declared.Answer.the-variants.{Done, Refused}
 use Rattle.graph.specs.declared.Code.{Code}
 use Rattle.graph.specs.Parts.{Parts}
 use Rattle.graph.specs.Sizes.{tooLarge, codeLengths}
-use Rattle.elimination.specs.Held.{held}
-use Rattle.elimination.proofs.Infos.{info-inside}
 use Rattle.lent.specs.Malformed.{malformed}
 use Rattle.lent.specs.Misencoded.{graphIn, reducedIn, misencoded}
 use Rattle.lent.specs.LentCode.{NotRefused, MatrixWork, matrixLengths, refusals}
-use Rattle.vectors.specs.Fine.{fine, Fine}
-use Rattle.vectors.specs.Vector.{Vector, at}
 use Rattle.words.specs.Encoding.{informationOf}
 use Rattle.words.specs.Word.{Word}
 use Rattle.words.proofs.CheckSums.{all-satisfied}
+use Rattle.vectors.specs.Fine.{fine, Fine}
+use Rattle.vectors.specs.Vector.{Vector, at}
 use Rattle.rounds.specs.Tanner.{Tanner, tannerIn}
 use Rattle.rounds.specs.Round.{State}
 use Rattle.rounds.specs.Begin.{begin}
@@ -44,15 +43,7 @@ use Rattle.rounds.proofs.FineRounds.{channels-fine, posteriorsAfter-length, pos
 use Rattle.rounds.proofs.KnownRounds.{known-channel, known-decided, decisions-length, decisions-at, decisions-small}
 use Rattle.decoders.specs.BeliefPropagation.{start, first, rounds, wide, tests, allTests}
 use Rattle.decoders.specs.DecodeSoft.{DecodedSoft, ownLengths, decodeSoft}
-
--- whether an answer is a word, and its number otherwise
-abbrev isDone : Answer → Bool
-isDone Done = true
-isDone (Refused k) = false
-
-abbrev numberOf : Answer → ℕ
-numberOf Done = 0
-numberOf (Refused k) = k
+use Rattle.decoders.proofs.Answers.{done-not-refused, one-number}
 
 -- tests whose numbers are others than 10
 abbrev notTen : ℕ → Bool
@@ -202,7 +193,7 @@ module _ (c : Code) (p : Parts) (metrics : List Float) (known limit : ℕ) (word
           ∙ Left.kept 10 word (decisions t s (rounds c p metrics known limit)) (λ z. omega arith)
 
       not-done : d .answer .answer ≢ Done
-      not-done z = true≢false (ap isDone (sym z ∙ miss-answer))
+      not-done z = done-not-refused 10 (sym z ∙ miss-answer)
 
     -- it accepts where there is such a round, and only there
     done : d .answer .answer ≡ Done → f ≤ limit
@@ -258,7 +249,7 @@ module _ (c : Code) (p : Parts) (metrics : List Float) (known limit : ℕ) (word
 
   -- so of every call that accepts, and of every one that 10 turns down
   pub accepted : d .answer .answer ≡ Done → Decodes
-  accepted z = decodes (comes (λ k n q. true≢false (ap isDone (sym z ∙ q))))
+  accepted z = decodes (comes (λ k n q. done-not-refused k (sym z ∙ q)))
 
   pub under-ten : d .answer .answer ≡ Refused 10 → Decodes
-  under-ten z = decodes (comes (λ k n q. n (ap numberOf (sym q ∙ z))))
+  under-ten z = decodes (comes (λ k n q. n (one-number k 10 (sym q ∙ z))))

@@ -1,8 +1,8 @@
 -- Which way a folded choice goes.
 -- Assumes nothing.
-use mathlib.Core.Path.{_≡_}
+use mathlib.Core.Path.{_≡_, refl}
 use mathlib.Core.Logic.{_≢_}
-use mathlib.Core.Bool.{Bool, true, false}
+use mathlib.Core.Bool.{Bool, true, false, not}
 use Prim.Native.Nat.{ℕ, _<_, _≤_}
 use borrow.Author.Tests.{eq-eqb, ne-eqb, lt-ltb, le-ltb}
 use lib.Dec.{T, eqb, ltb}
@@ -16,6 +16,12 @@ module _ {ℓ} {A : Type ℓ} where
   pub pick-false : (test : Bool) (x y : A) → test ≡ false → pick test x y ≡ y
   unfolding pick
   pick-false test x y e = rw e
+
+  -- the other way round
+  pub pick-not : (test : Bool) (x y : A) → pick test x y ≡ pick (not test) y x
+  unfolding pick
+  pick-not true x y = refl
+  pick-not false x y = refl
 
   -- what holds of both outcomes
   pub pick-either {ℓ′} : (P : A → Type ℓ′) (test : Bool) (x y : A) → (T test → P x) → P y → P (pick test x y)
