@@ -18,8 +18,8 @@ use Rattle.candidates.proofs.score.flip.Tie as tie
 
 abbrev Inv-loop : tie.InvT-loop
 Inv-loop metrics g places word₀ before score₀ e₀ e-end word score e =
-    (e ≤ e-end) × (e-end ≡ length places) × (length word ≡ length word₀) × ((v : ℕ) → nth word v < 32)
-    × (_≡_ {A = List ℕ × Float} (word, score) (iter e (λ e. flipAt metrics g (nth places e)) (word₀, before)))
+    (e ≤ e-end) × (e-end ≡ length places) × (length word ≡ length word₀)
+    × (_≡_ {A = List ℕ × Float} (word, score) (iter e (λ e. flipAt metrics g (nth places e)) (word₀, before))) × ((v : ℕ) → nth word v < 32)
 
 abbrev μ-loop : tie.MeasureT-loop
 μ-loop metrics g places word₀ before score₀ e₀ e-end word score e = e-end - e
@@ -36,7 +36,7 @@ inside c =
     omega (arith, ap (λ (l : List ℕ). nth l (c .before .loop .e)) e, support-inside (now (s .args .g)) (c .before .loop .e) (omega (arith, ap length e, c .before .loop .inv .1)), s .pre .0 .1)
 
 old : (c : tie.In-loop Inv-loop μ-loop) → nth (c .before .loop .word) (place c) < 32
-old c = c .before .loop .inv .3 (place c)
+old c = c .before .loop .inv .4 (place c)
 
 new : (c : tie.In-loop Inv-loop μ-loop) → bitXor (nth (c .before .loop .word) (place c)) (nth (now (c .before .before .args .g)) (place c)) < 32
 new c = xor-lt 5 (nth (c .before .loop .word) (place c)) (nth (now (c .before .before .args .g)) (place c)) (old c) (c .before .before .pre .1 .1 (place c))
@@ -48,8 +48,8 @@ loop-again c =
       omega arith,
       refl,
       length-set (l .word) (place i) _ ∙ l .inv .2,
-      set-small (l .word) (place i) _ 32 (new i) (l .inv .3),
-      iter-on _ _ _ _ (l .inv .4),
+      iter-on _ _ _ _ (l .inv .3),
+      set-small (l .word) (place i) _ 32 (new i) (l .inv .4),
     )
 
 returns : tie.Need-returns Inv-loop μ-loop
@@ -58,7 +58,7 @@ returns c =
     let l = c .before .loop in
     let e = s .pre .1 .2 in
     flips-end (now (s .args .metrics)) (now (s .args .g)) (now (s .args .word)) (s .args .before) (s .pre .0 .1) (l .e) _ (omega (arith, ap length e, l .inv .1))
-    (l .inv .4 ∙ ap (λ (p : List ℕ). iter (l .e) (λ e. flipAt (now (s .args .metrics)) (now (s .args .g)) (nth p e)) (now (s .args .word), s .args .before)) e)
+    (l .inv .3 ∙ ap (λ (p : List ℕ). iter (l .e) (λ e. flipAt (now (s .args .metrics)) (now (s .args .g)) (nth p e)) (now (s .args .word), s .args .before)) e)
 
 pub flip-spec : {M : Type 1} → statement M
 flip-spec =
@@ -66,7 +66,7 @@ flip-spec =
     (tie.spec
     Inv-loop
     μ-loop
-    (λ c. (omega arith, refl, refl, c .pre .1 .0, iter-start _ _))
+    (λ c. (omega arith, refl, refl, iter-start _ _, c .pre .1 .0))
     (λ c. omega arith)
     (λ c. omega (arith, inside (c .before), c .before .before .before .pre .0 .2))
     (λ c. omega (arith, inside (c .before .before), c .before .before .before .loop .inv .2))
