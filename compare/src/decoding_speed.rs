@@ -2,18 +2,17 @@
 
 use crate::arithmetic::{self, Degrees};
 use crate::code::Code;
-use crate::codes;
+use crate::code_speed::{self, times_on};
 use crate::decode_call::Decoding;
 use crate::decoding::FRAME;
 use crate::filling::BEFORE;
 use crate::float::plain;
 use crate::lent_code::{LentCode, LentOwn};
 use crate::metrics::{self, Kind};
-use crate::on_code::{Call, Judged, WORK, timed};
+use crate::on_code::{Call, Judged, WORK};
 use crate::oracle::{NbCode, OwnCode};
 use crate::random::Random;
-use crate::speed::{Test, best_times, print_ratio};
-use std::cell::RefCell;
+use crate::speed::print_ratio;
 use std::hint::black_box;
 
 // The Rust's methods, behind functions that are not inlined, as the archive's calls are not.
@@ -35,8 +34,8 @@ const TIMES: usize = 200;
 /// which is what the hundred take more than the one, has no channel vectors to make, and stands beside
 /// its bare arithmetic.
 pub fn measure() {
-    for on in codes::rates().iter().step_by(2) {
-        measure_code(on);
+    for on in code_speed::of_rates() {
+        measure_code(&on);
     }
 }
 
@@ -52,27 +51,12 @@ fn measure_code(on: &Judged) {
     for decoding in [&one, &frame] {
         print_rounds(on, decoding, &sizes);
     }
-    let calls = [
-        Call::K,
-        Call::N,
-        Call::K,
-        Call::N,
-        Call::Decode(one),
-        Call::Decode(frame),
-    ];
-    let code = RefCell::new(LentCode::new(&on.code, WORK, &BEFORE[0]));
-    let mut ours = timed(calls, &code);
     let degrees = Degrees::of(built);
-    let [k, n_alone, k_again, n_again, ours_one, ours_frame] = ours.each_mut();
-    let best = best_times(
+    let (test, [one, frame], [rust_one, rust_frame, rust_own_exp, bare]) = times_on(
+        on,
         TIMES,
+        [Call::Decode(one), Call::Decode(frame)],
         [
-            k,
-            n_alone,
-            k_again,
-            n_again,
-            ours_one,
-            ours_frame,
             &mut || {
                 black_box(rust_decode_soft(black_box(built), black_box(&floats), 1)).ok();
             },
@@ -95,8 +79,6 @@ fn measure_code(on: &Judged) {
             &mut || arithmetic::round(black_box(&degrees)),
         ],
     );
-    let test = Test::new(&best[..4]);
-    let [.., one, frame, rust_one, rust_frame, rust_own_exp, bare] = best;
     test.print_ratios("decode_soft, 1 round", &sizes, one, rust_one);
     let name = format!("decode_soft, 1 round, beside the Rust's own exp, {sizes}");
     print_ratio(&name, one, rust_own_exp);

@@ -8,6 +8,7 @@ mod calls;
 mod candidates;
 mod code;
 mod code_lists;
+mod code_speed;
 mod codes;
 mod damage;
 mod decode_call;

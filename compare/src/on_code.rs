@@ -12,9 +12,7 @@ use crate::oracle::NbCode;
 use crate::report::{Case, HeldTo, Tally};
 use crate::rounds::Rounds;
 use crate::ties::Ties;
-use std::cell::RefCell;
 use std::fmt;
-use std::hint::black_box;
 
 /// A lent code: its name in a report, and what document 01 says of it.
 pub struct Judged {
@@ -381,15 +379,4 @@ impl Tallies {
         self.candidates.finish();
         differences
     }
-}
-
-/// Calls on one lent code to be timed. All go over the same memory, since differences of their
-/// times are taken.
-pub fn timed<const N: usize>(calls: [Call; N], code: &RefCell<LentCode>) -> [impl FnMut() + '_; N] {
-    calls.map(|call| {
-        let mut own = LentOwn::new(&call, &BEFORE[0]);
-        move || {
-            black_box(own.call(black_box(&call), &mut code.borrow_mut()));
-        }
-    })
 }

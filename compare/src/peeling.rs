@@ -3,14 +3,12 @@
 
 use crate::calls::encoding;
 use crate::code::Code;
+use crate::code_speed::{self, times_after};
 use crate::codes::{self, accepted};
-use crate::filling::BEFORE;
-use crate::lent_code::LentCode;
-use crate::on_code::{Call, Judged, Tallies, WORK, timed};
+use crate::on_code::{Call, Judged, Tallies};
 use crate::oracle::{NbCode, RATES, degrees_for};
 use crate::preferences::{at_random, of_each_kind, of_numbers};
 use crate::random::Random;
-use crate::speed::{Test, best_times_after};
 use std::cell::RefCell;
 use std::hint::black_box;
 
@@ -127,18 +125,14 @@ const ROUNDS: usize = 300;
 /// The speed of both calls at each of the four rates by the degrees, ours beside the Rust's: the
 /// whole call, and without the test of the lent code, as for words.
 pub fn measure() {
-    for (rate, on) in RATES.into_iter().zip(codes::rates().iter().step_by(2)) {
-        measure_code(on, &of_numbers(&degrees_for(rate)));
+    for (rate, on) in RATES.into_iter().zip(code_speed::of_rates()) {
+        measure_code(&on, &of_numbers(&degrees_for(rate)));
     }
 }
 
 fn measure_code(on: &Judged, prefer: &[i64]) {
     let Code { n, m, .. } = on.code;
     let calls = [
-        Call::K,
-        Call::N,
-        Call::K,
-        Call::N,
         Call::PeelPicks {
             prefer: prefer.to_vec(),
             picks: n,
@@ -147,26 +141,19 @@ fn measure_code(on: &Judged, prefer: &[i64]) {
             prefer: prefer.to_vec(),
         },
     ];
-    let code = RefCell::new(LentCode::new(&on.code, WORK, &BEFORE[0]));
-    let mut ours = timed(calls, &code);
     let built = on.built();
     // The Rust's method takes its code. What it gives stands here until the next is copied, so that
     // neither copying nor dropping is timed.
     let taken = RefCell::new(None);
-    let [k, n_alone, k_again, n_again, peel_picks, with_peeled_info] = ours.each_mut();
-    let best = best_times_after(
+    let (test, [peel_picks, with_peeled_info], [rust_picks, rust_info]) = times_after(
+        on,
         ROUNDS,
-        &mut || {
-            code.borrow_mut().put(&on.code);
+        &mut |code| {
+            code.put(&on.code);
             taken.replace(Some(built.clone()));
         },
+        calls,
         [
-            k,
-            n_alone,
-            k_again,
-            n_again,
-            peel_picks,
-            with_peeled_info,
             &mut || {
                 black_box(rust_peel_picks(black_box(built), black_box(prefer)));
             },
@@ -177,8 +164,6 @@ fn measure_code(on: &Judged, prefer: &[i64]) {
             },
         ],
     );
-    let test = Test::new(&best[..4]);
-    let [.., peel_picks, with_peeled_info, rust_picks, rust_info] = best;
     let sizes = format!("{n} variables and {m} checks");
     test.print_ratios("peel_picks", &sizes, peel_picks, rust_picks);
     test.print_ratios("with_peeled_info", &sizes, with_peeled_info, rust_info);

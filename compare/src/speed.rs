@@ -1,7 +1,6 @@
 //! Times ours and the Rust on the same work, in one run.
 
 use crate::random::Random;
-use std::array::from_fn;
 use std::time::Instant;
 
 /// The best of so many rounds counts, since everything else that runs only adds time.
@@ -10,29 +9,25 @@ const ROUNDS: usize = 20;
 /// Times both sides in turn and prints the ratio of their best times. `count` is how many answers
 /// one round gives.
 pub fn time_both(name: &str, count: usize, mut ours: impl FnMut(), mut rust: impl FnMut()) {
-    let [ours, rust] = best_times(ROUNDS, [&mut ours, &mut rust]);
-    print_ratio(name, ours / count as f64, rust / count as f64);
+    let best = best_of(ROUNDS, &mut || {}, &mut [&mut ours, &mut rust]);
+    print_ratio(name, best[0] / count as f64, best[1] / count as f64);
 }
 
 /// The best time of each piece of work in nanoseconds. All are done in each round, so that a slow
 /// spell of the machine meets all of them, and in another order each time, so that what one leaves
-/// to the next, in caches and predictions, meets all of them too.
-pub fn best_times<const N: usize>(rounds: usize, works: [&mut dyn FnMut(); N]) -> [f64; N] {
-    best_times_after(rounds, &mut || {}, works)
-}
-
-/// The same, with something to be done before each piece of work that is not timed.
-pub fn best_times_after<const N: usize>(
+/// to the next, in caches and predictions, meets all of them too. What is done before each piece of
+/// work is not timed.
+pub fn best_of(
     rounds: usize,
     prepare: &mut dyn FnMut(),
-    works: [&mut dyn FnMut(); N],
-) -> [f64; N] {
+    works: &mut [&mut dyn FnMut()],
+) -> Vec<f64> {
     let mut random = Random::new();
-    let mut turns: [usize; N] = from_fn(|i| i);
-    let mut best = [f64::INFINITY; N];
+    let mut turns: Vec<usize> = (0..works.len()).collect();
+    let mut best = vec![f64::INFINITY; works.len()];
     for _ in 0..rounds {
         random.shuffle(&mut turns);
-        for i in turns {
+        for &i in &turns {
             prepare();
             best[i] = best[i].min(nanoseconds(works[i]));
         }

@@ -2,15 +2,13 @@
 
 use crate::calls::{bad_symbols, every_call, some_calls};
 use crate::code::Code;
+use crate::code_speed::{self, times_on};
 use crate::codes;
-use crate::filling::BEFORE;
 use crate::judge::judged;
-use crate::lent_code::LentCode;
-use crate::on_code::{Asked, Call, Judged, Tallies, WORK, timed};
+use crate::on_code::{Asked, Call, Judged, Tallies};
 use crate::oracle::NbCode;
 use crate::random::Random;
-use crate::speed::{Test, best_times, print_ratio};
-use std::cell::RefCell;
+use crate::speed::print_ratio;
 use std::hint::black_box;
 
 /// So many draws of words for each code of the four rates.
@@ -72,8 +70,8 @@ const TURNS: usize = 16;
 /// little else than that test, so its time is taken from them; `k` stands beside the Rust's
 /// elimination, which is most of the test.
 pub fn measure() {
-    for on in codes::rates().iter().step_by(2) {
-        measure_code(on);
+    for on in code_speed::of_rates() {
+        measure_code(&on);
     }
 }
 
@@ -84,29 +82,19 @@ fn measure_code(on: &Judged) {
     let word = built.encode(&syms);
     let calls = [
         Call::K,
-        Call::N,
-        Call::K,
-        Call::N,
         Call::Encode {
             syms: syms.clone(),
             word: n,
         },
         Call::ChecksOk { word: word.clone() },
     ];
-    let code = RefCell::new(LentCode::new(&on.code, WORK, &BEFORE[0]));
-    let mut ours = timed(calls, &code);
     let mut again = judged(&on.code).expect("the code is not refused");
     let order: Vec<usize> = (0..n).rev().collect();
-    let [k, n_alone, k_again, n_again, encode, checks_ok] = ours.each_mut();
-    let best = best_times(
+    let (test, [k, encode, checks_ok], [build, rust_encode, rust_checks_ok]) = times_on(
+        on,
         ROUNDS,
+        calls,
         [
-            k,
-            n_alone,
-            k_again,
-            n_again,
-            encode,
-            checks_ok,
             &mut || rust_build_encoder(black_box(&mut again), black_box(&order)),
             &mut || {
                 for _ in 0..TURNS {
@@ -120,8 +108,6 @@ fn measure_code(on: &Judged) {
             },
         ],
     );
-    let test = Test::new(&best[..4]);
-    let [k, .., encode, checks_ok, build, rust_encode, rust_checks_ok] = best;
 
     let sizes = format!("{n} variables and {m} checks");
     print_ratio(&format!("k beside build_encoder, {sizes}"), k, build);

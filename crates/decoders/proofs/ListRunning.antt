@@ -17,7 +17,7 @@ use Rattle.vectors.specs.Vector.{at}
 use Rattle.candidates.specs.Alternatives.{likeliestAt, differenceAt, marginAt, before, leastSure}
 use Rattle.candidates.specs.GeneratorRows.{column, rowOf}
 use Rattle.candidates.specs.HeldWord.{heldBase, heldSlots, heldGenerator, heldWord}
-use Rattle.candidates.specs.Tried.{tried}
+use Rattle.candidates.specs.Tried.{Tried, tried}
 use Rattle.candidates.proofs.RowsOf.{column-small}
 use Rattle.candidates.proofs.Slots.{least-ext, least-inside, difference-small}
 use Rattle.candidates.proofs.Stepping.{tried-ext}
@@ -46,9 +46,6 @@ module _ (n r : ℕ) (parity info a : List ℕ) (posteriors : List Float) where
         least-ext k (at margins) (marginAt posteriors (nth info)) w (λ t h. fill-at (marginAt posteriors (nth info)) k margins₀ margins t nan h e)
         ∙ ap (leastSure k (marginAt posteriors (nth info))) least
 
-    few : w ≤ k
-    few = omega (arith, least)
-
     slot-inside : (j : ℕ) → j < w → nth (heldSlots n r parity info a posteriors width) j < k
     unfolding heldSlots
     slot-inside j h = least-inside k (marginAt posteriors (nth info)) (min width k) j (omega (arith, least)) (omega (arith, least))
@@ -75,5 +72,5 @@ module _ (n r : ℕ) (parity info a : List ℕ) (posteriors : List Float) where
         → tried metrics (rowOf n h) base (2 ^ w - 1) .best ≡ heldWord n r parity info a posteriors metrics width
     unfolding heldWord
     found-is metrics base h b e f =
-        ap (λ (t : _). t .best) (tried-ext metrics (rowOf n h) (heldGenerator n r parity info a posteriors width) base w (2 ^ w - 1) (omega (arith, least)) (omega (arith, pow-pos w)) f)
+        ap (λ (t : Tried). t .best) (tried-ext metrics (rowOf n h) (heldGenerator n r parity info a posteriors width) base w (2 ^ w - 1) (omega (arith, least)) (omega (arith, pow-pos w)) f)
         ∙ ap₂ (λ (x : List ℕ) (m : ℕ). tried metrics (heldGenerator n r parity info a posteriors width) x (2 ^ m - 1) .best) e least
