@@ -179,10 +179,7 @@ fn main() {
         cut("fec.rs", &fec, RATE_HEAD, RATE_END),
     );
 
-    link(&folder(
-        "HAZGUNEK_ARCHIVE_DIR",
-        root.join("target/staticlib"),
-    ));
+    link(&folder("HAZGUNEK_ARCHIVE_DIR", root.join("crates/abi/out")));
 }
 
 /// A variable that cargo sets.
@@ -246,7 +243,7 @@ fn link(archive_dir: &Path) {
     println!("cargo:rerun-if-changed={}", archive.display());
     assert!(
         archive.is_file(),
-        "no {}: `rt staticlib abi` in the project's root makes it, and compare/run calls that",
+        "no {}: `rt lib` in crates/abi makes it, and compare/run calls that",
         archive.display(),
     );
     println!("cargo:rustc-link-search=native={}", archive_dir.display());

@@ -1,4 +1,4 @@
-/* Hazgunek: the exported calls of the static library (`rt staticlib abi`), for C and for what reads C.
+/* Hazgunek: the exported calls of the static library (`rt lib` in crates/abi), for C and for what reads C.
  *
  * Each function answers 0, or the number by which it turned the call down; docs/PARTS.md lists the numbers and the length of
  * every lent part. A pointer is never null and points to as many elements as its length says, to one where it has no length; a

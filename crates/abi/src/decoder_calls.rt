@@ -40,11 +40,11 @@ pub extern "C" fn hazgunek_decode_soft(
       rounds = rounds.new;
       word = word.new;
       posteriors = posteriors.new;
-      work = lent_matrix h.exit pivots.exit;
+      work = lent_matrix h.new pivots.new;
       vectors = vectors.new;
     })
-        (soft_decoding (decode_soft (code_of n m edges rank) (lent var.entry coef.entry row.entry start.entry col.entry order.entry parity.entry info.entry a.entry)
-        metrics.now known limit word.old posteriors.old (lent_matrix h.entry pivots.entry) vectors.old)) }
+        (soft_decoding (decode_soft (code_of n m edges rank) (lent var.now coef.now row.now start.now col.now order.now parity.now info.now a.now)
+        metrics.now known limit word.old posteriors.old (lent_matrix h.old pivots.old) vectors.old)) }
 {
     let code = Code { n, m, edges, rank };
     let soft = decoders::decode_soft(
@@ -87,11 +87,11 @@ pub extern "C" fn hazgunek_decode(
       number = result;
       rounds = rounds.new;
       word = word.new;
-      work = lent_matrix h.exit pivots.exit;
+      work = lent_matrix h.new pivots.new;
       vectors = vectors.new;
     })
-        (hard_decoding (decode (code_of n m edges rank) (lent var.entry coef.entry row.entry start.entry col.entry order.entry parity.entry info.entry a.entry)
-        metrics.now known limit word.old (lent_matrix h.entry pivots.entry) vectors.old)) }
+        (hard_decoding (decode (code_of n m edges rank) (lent var.now coef.now row.now start.now col.now order.now parity.now info.now a.now)
+        metrics.now known limit word.old (lent_matrix h.old pivots.old) vectors.old)) }
 {
     let code = Code { n, m, edges, rank };
     let hard = decoders::decode(
@@ -130,9 +130,9 @@ pub extern "C" fn hazgunek_list_decode(
     h: &mut [u8],
     pivots: &mut [u16],
 ) -> u8
-    ensures { ◌≡◌ {A = ListDecoding} (record { number = result; rounds = rounds.new; word = word.new; work = lent_matrix h.exit pivots.exit })
-        (list_decoding (list_decode (code_of n m edges rank) (lent var.entry coef.entry row.entry start.entry col.entry order.entry parity.entry info.entry a.entry)
-        metrics.now posteriors.now width word.old (lent_matrix h.entry pivots.entry))) }
+    ensures { ◌≡◌ {A = ListDecoding} (record { number = result; rounds = rounds.new; word = word.new; work = lent_matrix h.new pivots.new })
+        (list_decoding (list_decode (code_of n m edges rank) (lent var.now coef.now row.now start.now col.now order.now parity.now info.now a.now)
+        metrics.now posteriors.now width word.old (lent_matrix h.old pivots.old))) }
 {
     let code = Code { n, m, edges, rank };
     let list = decoders::list_decode(

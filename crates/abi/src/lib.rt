@@ -1,5 +1,7 @@
 // The exported calls: each public call as a C function, declared in include/hazgunek.h. Each answers the number by which it turned the call down, 0 where
 // it did not, and leaves what it found in lent parts.
+#![tactic(auto)]
+
 ghost use Rattle.std.specs.Prelude.{◌≡◌};
 ghost use Rattle.abi.specs.OneNumber.{OneNumber};
 ghost use Rattle.abi.specs.Mul.{multiplied};
@@ -85,12 +87,12 @@ pub extern "C" fn hazgunek_new(
       number = result;
       edges = edges.new;
       rank = rank.new;
-      code = lent var.exit coef.exit row.exit start.exit col.exit order.exit parity.exit info.exit a.exit;
-      work = lent_work chk.exit load.exit own.exit deg.exit;
+      code = lent var.new coef.new row.new start.new col.new order.new parity.new info.new a.new;
+      work = lent_work chk.new load.new own.new deg.new;
     })
         (exported n m seed degrees.now edges.old rank.old
-        (lent var.entry coef.entry row.entry start.entry col.entry order.entry parity.entry info.entry a.entry)
-        (lent_work chk.entry load.entry own.entry deg.entry)) }
+        (lent var.old coef.old row.old start.old col.old order.old parity.old info.old a.old)
+        (lent_work chk.old load.old own.old deg.old)) }
 {
     match graph::new(
         n, m, seed, degrees, var, coef, row, start, col, order, parity, info, a, chk, load, own,

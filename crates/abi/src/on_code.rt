@@ -47,9 +47,9 @@ pub extern "C" fn hazgunek_encode(
     h: &mut [u8],
     pivots: &mut [u16],
 ) -> u8
-    ensures { ◌≡◌ {A = FilledPart} (record { number = result; part = word.new; work = lent_matrix h.exit pivots.exit })
-        (filled_part (encode (code_of n m edges rank) (lent var.entry coef.entry row.entry start.entry col.entry order.entry parity.entry info.entry a.entry)
-        syms.now word.old (lent_matrix h.entry pivots.entry))) }
+    ensures { ◌≡◌ {A = FilledPart} (record { number = result; part = word.new; work = lent_matrix h.new pivots.new })
+        (filled_part (encode (code_of n m edges rank) (lent var.now coef.now row.now start.now col.now order.now parity.now info.now a.now)
+        syms.now word.old (lent_matrix h.old pivots.old))) }
 {
     let code = Code { n, m, edges, rank };
     match words::encode(
@@ -82,9 +82,9 @@ pub extern "C" fn hazgunek_info_of(
     h: &mut [u8],
     pivots: &mut [u16],
 ) -> u8
-    ensures { ◌≡◌ {A = FoundPart} (record { number = result; found = count.new; part = syms.new; work = lent_matrix h.exit pivots.exit })
-        (found_part (info_of (code_of n m edges rank) (lent var.entry coef.entry row.entry start.entry col.entry order.entry parity.entry info.entry a.entry)
-        word.now syms.old (lent_matrix h.entry pivots.entry)) count.old) }
+    ensures { ◌≡◌ {A = FoundPart} (record { number = result; found = count.new; part = syms.new; work = lent_matrix h.new pivots.new })
+        (found_part (info_of (code_of n m edges rank) (lent var.now coef.now row.now start.now col.now order.now parity.now info.now a.now)
+        word.now syms.old (lent_matrix h.old pivots.old)) count.old) }
 {
     let code = Code { n, m, edges, rank };
     match words::info_of(
@@ -119,9 +119,9 @@ pub extern "C" fn hazgunek_checks_ok(
     h: &mut [u8],
     pivots: &mut [u16],
 ) -> u8
-    ensures { ◌≡◌ {A = FoundNumber} (record { number = result; found = ok.new; work = lent_matrix h.exit pivots.exit })
-        (checked (checks_ok (code_of n m edges rank) (lent var.entry coef.entry row.entry start.entry col.entry order.entry parity.entry info.entry a.entry)
-        word.now (lent_matrix h.entry pivots.entry)) ok.old) }
+    ensures { ◌≡◌ {A = FoundNumber} (record { number = result; found = ok.new; work = lent_matrix h.new pivots.new })
+        (checked (checks_ok (code_of n m edges rank) (lent var.now coef.now row.now start.now col.now order.now parity.now info.now a.now)
+        word.now (lent_matrix h.old pivots.old)) ok.old) }
 {
     let code = Code { n, m, edges, rank };
     match words::checks_ok(
@@ -156,9 +156,9 @@ pub extern "C" fn hazgunek_degree(
     h: &mut [u8],
     pivots: &mut [u16],
 ) -> u8
-    ensures { ◌≡◌ {A = FoundNumber} (record { number = result; found = degree.new; work = lent_matrix h.exit pivots.exit })
-        (found_number (degree_of (code_of n m edges rank) (lent var.entry coef.entry row.entry start.entry col.entry order.entry parity.entry info.entry a.entry)
-        v (lent_matrix h.entry pivots.entry)) degree.old) }
+    ensures { ◌≡◌ {A = FoundNumber} (record { number = result; found = degree.new; work = lent_matrix h.new pivots.new })
+        (found_number (degree_of (code_of n m edges rank) (lent var.now coef.now row.now start.now col.now order.now parity.now info.now a.now)
+        v (lent_matrix h.old pivots.old)) degree.old) }
 {
     let code = Code { n, m, edges, rank };
     match words::degree(
@@ -192,9 +192,9 @@ pub extern "C" fn hazgunek_k(
     h: &mut [u8],
     pivots: &mut [u16],
 ) -> u8
-    ensures { ◌≡◌ {A = FoundNumber} (record { number = result; found = k.new; work = lent_matrix h.exit pivots.exit })
-        (found_number (k_of (code_of n m edges rank) (lent var.entry coef.entry row.entry start.entry col.entry order.entry parity.entry info.entry a.entry)
-        (lent_matrix h.entry pivots.entry)) k.old) }
+    ensures { ◌≡◌ {A = FoundNumber} (record { number = result; found = k.new; work = lent_matrix h.new pivots.new })
+        (found_number (k_of (code_of n m edges rank) (lent var.now coef.now row.now start.now col.now order.now parity.now info.now a.now)
+        (lent_matrix h.old pivots.old)) k.old) }
 {
     let code = Code { n, m, edges, rank };
     match words::k(
@@ -228,9 +228,9 @@ pub extern "C" fn hazgunek_n(
     h: &mut [u8],
     pivots: &mut [u16],
 ) -> u8
-    ensures { ◌≡◌ {A = FoundNumber} (record { number = result; found = symbols.new; work = lent_matrix h.exit pivots.exit })
-        (found_number (n_of (code_of n m edges rank) (lent var.entry coef.entry row.entry start.entry col.entry order.entry parity.entry info.entry a.entry)
-        (lent_matrix h.entry pivots.entry)) symbols.old) }
+    ensures { ◌≡◌ {A = FoundNumber} (record { number = result; found = symbols.new; work = lent_matrix h.new pivots.new })
+        (found_number (n_of (code_of n m edges rank) (lent var.now coef.now row.now start.now col.now order.now parity.now info.now a.now)
+        (lent_matrix h.old pivots.old)) symbols.old) }
 {
     let code = Code { n, m, edges, rank };
     match words::n(
@@ -265,9 +265,9 @@ pub extern "C" fn hazgunek_info_positions(
     h: &mut [u8],
     pivots: &mut [u16],
 ) -> u8
-    ensures { ◌≡◌ {A = FoundPart} (record { number = result; found = count.new; part = positions.new; work = lent_matrix h.exit pivots.exit })
-        (found_part (info_positions (code_of n m edges rank) (lent var.entry coef.entry row.entry start.entry col.entry order.entry parity.entry info.entry a.entry)
-        positions.old (lent_matrix h.entry pivots.entry)) count.old) }
+    ensures { ◌≡◌ {A = FoundPart} (record { number = result; found = count.new; part = positions.new; work = lent_matrix h.new pivots.new })
+        (found_part (info_positions (code_of n m edges rank) (lent var.now coef.now row.now start.now col.now order.now parity.now info.now a.now)
+        positions.old (lent_matrix h.old pivots.old)) count.old) }
 {
     let code = Code { n, m, edges, rank };
     match words::info_positions(

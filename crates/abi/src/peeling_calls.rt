@@ -31,9 +31,9 @@ pub extern "C" fn hazgunek_peel_picks(
     h: &mut [u8],
     pivots: &mut [u16],
 ) -> u8
-    ensures { ◌≡◌ {A = FoundPart} (record { number = result; found = count.new; part = picks.new; work = lent_matrix h.exit pivots.exit })
-        (found_part (peel_picks (code_of n m edges rank) (lent var.entry coef.entry row.entry start.entry col.entry order.entry parity.entry info.entry a.entry)
-        prefer.now picks.old (lent_matrix h.entry pivots.entry)) count.old) }
+    ensures { ◌≡◌ {A = FoundPart} (record { number = result; found = count.new; part = picks.new; work = lent_matrix h.new pivots.new })
+        (found_part (peel_picks (code_of n m edges rank) (lent var.now coef.now row.now start.now col.now order.now parity.now info.now a.now)
+        prefer.now picks.old (lent_matrix h.old pivots.old)) count.old) }
 {
     let code = Code { n, m, edges, rank };
     match peeling::peel_picks(
@@ -70,12 +70,12 @@ pub extern "C" fn hazgunek_with_peeled_info(
     ensures { ◌≡◌ {A = PeeledInfo} (record {
       number = result;
       rank = rank.new;
-      code = lent var.exit coef.exit row.exit start.exit col.exit order.exit parity.exit info.exit a.exit;
-      work = lent_matrix h.exit pivots.exit;
+      code = lent var.now coef.now row.now start.now col.now order.new parity.new info.new a.new;
+      work = lent_matrix h.new pivots.new;
     })
         (peeled_info (code_of n m edges rank.old)
-        (lent var.entry coef.entry row.entry start.entry col.entry order.entry parity.entry info.entry a.entry)
-        prefer.now (lent_matrix h.entry pivots.entry)) }
+        (lent var.now coef.now row.now start.now col.now order.old parity.old info.old a.old)
+        prefer.now (lent_matrix h.old pivots.old)) }
 {
     let code = Code {
         n,

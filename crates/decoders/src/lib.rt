@@ -1,4 +1,6 @@
 // The decoders of a lent code. The public calls of document 01's part 4 stand here.
+#![tactic(auto)]
+
 ghost use Rattle.std.specs.Prelude.{◌≡◌};
 ghost use Rattle.graph.specs.Parts.{lent};
 ghost use Rattle.lent.specs.LentCode.{lent_matrix};
@@ -18,7 +20,7 @@ mod out;
 mod refusals;
 
 // What a decoding answers: whether there is a word, and how many rounds were made.
-#[derive(Drop)]
+#[derive(Clone, Copy)]
 pub struct Decoding {
     pub answer: Answer,
     pub rounds: u32,
@@ -49,11 +51,11 @@ pub fn decode_soft(
       answer = result;
       word = word.new;
       posteriors = posteriors.new;
-      work = lent_matrix h.exit pivots.exit;
+      work = lent_matrix h.new pivots.new;
       vectors = vectors.new;
     })
-        (decode_soft code (lent var.entry coef.entry row.entry start.entry col.entry order.entry parity.entry info.entry a.entry)
-        metrics.now known limit word.old posteriors.old (lent_matrix h.entry pivots.entry) vectors.old) }
+        (decode_soft code (lent var.now coef.now row.now start.now col.now order.now parity.now info.now a.now)
+        metrics.now known limit word.old posteriors.old (lent_matrix h.old pivots.old) vectors.old) }
 {
     let rest = refusals::misfit(code.n, metrics.len())
         | ((word.len() != code.n)
@@ -95,9 +97,9 @@ pub fn decode(
     pivots: &mut [u16],
     vectors: &mut [f32],
 ) -> Decoding
-    ensures { ◌≡◌ {A = Decoded} (record { answer = result; word = word.new; work = lent_matrix h.exit pivots.exit; vectors = vectors.new })
-        (decode code (lent var.entry coef.entry row.entry start.entry col.entry order.entry parity.entry info.entry a.entry)
-        metrics.now known limit word.old (lent_matrix h.entry pivots.entry) vectors.old) }
+    ensures { ◌≡◌ {A = Decoded} (record { answer = result; word = word.new; work = lent_matrix h.new pivots.new; vectors = vectors.new })
+        (decode code (lent var.now coef.now row.now start.now col.now order.now parity.now info.now a.now)
+        metrics.now known limit word.old (lent_matrix h.old pivots.old) vectors.old) }
 {
     let rest = refusals::misfit(code.n, metrics.len())
         | ((word.len() != code.n) | (vectors.len() != VECTORS));
@@ -137,9 +139,9 @@ pub fn list_decode(
     h: &mut [u8],
     pivots: &mut [u16],
 ) -> Decoding
-    ensures { ◌≡◌ {A = Filled Decoding} (record { answer = result; part = word.new; work = lent_matrix h.exit pivots.exit })
-        (list_decode code (lent var.entry coef.entry row.entry start.entry col.entry order.entry parity.entry info.entry a.entry)
-        metrics.now posteriors.now width word.old (lent_matrix h.entry pivots.entry)) }
+    ensures { ◌≡◌ {A = Filled Decoding} (record { answer = result; part = word.new; work = lent_matrix h.new pivots.new })
+        (list_decode code (lent var.now coef.now row.now start.now col.now order.now parity.now info.now a.now)
+        metrics.now posteriors.now width word.old (lent_matrix h.old pivots.old)) }
 {
     let rest = refusals::misfit(code.n, metrics.len())
         | (refusals::misfit(code.n, posteriors.len()) | (word.len() != code.n));

@@ -63,8 +63,8 @@ pub fn refused(
     vectors: &mut [f32],
     rest: bool,
 ) -> u8
-    ensures value { result ≡ refusal (tests code (lent var.entry coef.entry row.entry start.entry col.entry order.entry parity.entry info.entry a.entry) (lent_matrix h.entry pivots.entry) rest limit) }
-    ensures pivots_value { lent_matrix h.exit pivots.exit ≡ matrix_left result (lent_matrix h.entry pivots.entry) }
+    ensures value { result ≡ refusal (tests code (lent var.now coef.now row.now start.now col.now order.now parity.now info.now a.now) (lent_matrix h.old pivots.old) rest limit) }
+    ensures pivots_value { lent_matrix h.new pivots.new ≡ matrix_left result (lent_matrix h.old pivots.old) }
     ensures vectors_after { vectors.new ≡ pick (eqb result 0) vectors.old (worked result zero32 vectors.old) }
 {
     let refused = lent::refused(

@@ -1,7 +1,7 @@
 -- A column cleared by a row: the entries after it, and that it keeps the solutions.
 -- Assumes nothing.
 use mathlib.Core.Path.{◌≡◌, refl, sym, ap, ap₂, ◌∙◌}
-use mathlib.Core.Logic.{◌≢◌, ◌⊎◌, ⊎_elim, ◌↔◌}
+use mathlib.Core.Logic.{◌≢◌, ⊎_elim, ◌↔◌}
 use Prim.Native.Nat.{ℕ, ◌<◌}
 use lib.Bits.{bit_xor, xor_zero_r, xor_self}
 use Rattle.lists.proofs.Cases.{same_or_not}

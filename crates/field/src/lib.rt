@@ -1,4 +1,6 @@
 // The field of 32 elements and the generator SplitMix64: the lowest layer with code.
+#![tactic(auto)]
+
 pub mod gf;
 pub mod multiples;
 pub mod splitmix64;

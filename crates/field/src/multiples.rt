@@ -5,7 +5,7 @@ ghost use Rattle.field.specs.Field.{product};
 ghost use Rattle.field.specs.Multiples.{multiples_of, combined};
 
 // The factor times 1, x, x^2, x^3 and x^4.
-#[derive(Drop)]
+#[derive(Clone, Copy)]
 pub struct Multiples {
     pub m0: u8,
     pub m1: u8,

@@ -4,13 +4,13 @@ ghost use Rattle.field.specs.SplitMix64.{mixed, after, drawn};
 
 use crate::wrapping::wrapping_mul;
 
-#[derive(Drop)]
+#[derive(Clone, Copy)]
 pub struct SplitMix64 {
     pub state: u64,
 }
 
 // What is drawn, and the generator to go on with.
-#[derive(Drop)]
+#[derive(Clone, Copy)]
 pub struct Draw {
     pub value: u64,
     pub next: SplitMix64,

@@ -113,7 +113,7 @@ pub const DEGREE_ROWS: [[usize; 4]; 4] = [
 ];
 
 // The first `heavy` of n columns have the degree named, the others 2; there are m checks.
-#[derive(Drop)]
+#[derive(Clone, Copy)]
 pub struct DegreeRow {
     pub n: usize,
     pub m: usize,

@@ -1,7 +1,6 @@
 -- The call new: a code from n, m, a seed and the degrees; what it answers and how it leaves each part, from the values at entry. Document 01, part 2; nb.rs, `NbCode::new`.
 -- Assumes nothing.
 use Rattle.std.specs.Prelude.{ℕ, Bool, List, [], ◌∷◌, ◌++◌, ltb, length}
-use Rattle.std.specs.Borrow.{Bor}
 use Rattle.lists.specs.AnyBelow.{any_below}
 use Rattle.lists.specs.Entry.{nth}
 use Rattle.lists.specs.Total.{total}
@@ -25,8 +24,8 @@ pub record Work : Type 0 where
   pub deg : List ℕ
 
 -- what stands in them
-abbrev pub lent_work : Bor (List ℕ) → Bor (List ℕ) → Bor (List ℕ) → Bor (List ℕ) → Work
-lent_work chk load own deg = record { chk = chk.now; load = load.now; own = own.now; deg = deg.now }
+abbrev pub lent_work : List ℕ → List ℕ → List ℕ → List ℕ → Work
+lent_work chk load own deg = record { chk = chk; load = load; own = own; deg = deg }
 
 abbrev pub work_lengths : Work → List (ℕ × ℕ)
 work_lengths w = (length w.chk, 65536) ∷ (length w.load, 256) ∷ (length w.own, 65536) ∷ (length w.deg, 256) ∷ []

@@ -2,7 +2,6 @@
 -- nb.rs, `NbCode`.
 -- Assumes nothing.
 use Rattle.std.specs.Prelude.{ℕ, ◌+◌, List, [], map, eqb, length}
-use Rattle.std.specs.Borrow.{Bor}
 use Rattle.lists.specs.Entry.{nth}
 use Rattle.lists.specs.Values.{values}
 use Rattle.lists.specs.Chain.{chain, start_of}
@@ -45,9 +44,9 @@ pub record Parts : Type 0 where
   pub a : List ℕ
 
 -- what stands in the parts that are lent
-abbrev pub lent : Bor (List ℕ) → Bor (List ℕ) → Bor (List ℕ) → Bor (List ℕ) → Bor (List ℕ) → Bor (List ℕ) → Bor (List ℕ) → Bor (List ℕ) → Bor (List ℕ) → Parts
+abbrev pub lent : List ℕ → List ℕ → List ℕ → List ℕ → List ℕ → List ℕ → List ℕ → List ℕ → List ℕ → Parts
 lent var coef row start col order parity info a =
-    record { var = var.now; coef = coef.now; row = row.now; start = start.now; col = col.now; order = order.now; parity = parity.now; info = info.now; a = a.now }
+    record { var = var; coef = coef; row = row; start = start; col = col; order = order; parity = parity; info = info; a = a }
 
 -- the parts of a code in another column order: parity, information and table as elimination gives them, the graph's parts as they are
 abbrev pub ordered : Graph → List ℕ → Parts → Parts

@@ -70,7 +70,7 @@ fn build_graph(
 ) -> usize
     requires buildable { Buildable n m degrees.now }
     requires var_len { (length var.old ≡ 512) × (length coef.old ≡ 512) × (length row.old ≡ 257) × (length start.old ≡ 257) × (length col.old ≡ 512) }
-    requires work_fits { WorkFits (lent_work chk load own deg) }
+    requires work_fits { WorkFits (lent_work chk.old load.old own.old deg.old) }
     ensures { (result ≡ length (edges (built n m degrees.now seed)))
         × (var.new ≡ laid (variables (built n m degrees.now seed)) var.old)
         × (coef.new ≡ laid (coefficients (built n m degrees.now seed)) coef.old)
@@ -108,10 +108,10 @@ pub fn build(
     deg: &mut [u16],
 ) -> Code
     requires buildable { Buildable n m degrees.now }
-    requires parts_fit { PartsFit (lent var coef row start col order parity info a) }
-    requires work_fits { WorkFits (lent_work chk load own deg) }
+    requires parts_fit { PartsFit (lent var.old coef.old row.old start.old col.old order.old parity.old info.old a.old) }
+    requires work_fits { WorkFits (lent_work chk.old load.old own.old deg.old) }
     ensures value { result ≡ numbers (built n m degrees.now seed) (descending n) }
-    ensures fact { ◌≡◌ {A = Parts} (lent var.exit coef.exit row.exit start.exit col.exit order.exit parity.exit info.exit a.exit)
+    ensures fact { ◌≡◌ {A = Parts} (lent var.new coef.new row.new start.new col.new order.new parity.new info.new a.new)
         (parts (built n m degrees.now seed) (descending n)) }
 {
     clear_code(var, coef, row, start, col, order, parity, info, a);

@@ -1,4 +1,6 @@
 // Codes and the building of one. The public calls of document 01's part 2 stand here; each is turned down by number and leaves its lent parts as its definition says.
+#![tactic(auto)]
+
 ghost use Rattle.std.specs.Prelude.{◌≡◌};
 ghost use Rattle.graph.specs.EvenDegrees.{EvenDegrees, even_degrees};
 ghost use Rattle.graph.specs.Parts.{lent};
@@ -10,7 +12,7 @@ mod edges;
 pub mod refusals;
 
 // The numbers of a code; its parts are lent beside them.
-#[derive(Drop)]
+#[derive(Clone, Copy)]
 pub struct Code {
     pub n: usize,
     pub m: usize,
@@ -18,14 +20,14 @@ pub struct Code {
     pub rank: usize,
 }
 
-#[derive(Drop)]
+#[derive(Clone, Copy)]
 pub enum NewCode {
     Built(Code),
     Refused(u8),
 }
 
 // Of a call that finds what it leaves in lent parts.
-#[derive(Drop)]
+#[derive(Clone, Copy)]
 pub enum Answer {
     Done,
     Refused(u8),
@@ -67,12 +69,12 @@ pub fn new(
 ) -> NewCode
     ensures { ◌≡◌ {A = New} (record {
       answer = result;
-      code = lent var.exit coef.exit row.exit start.exit col.exit order.exit parity.exit info.exit a.exit;
-      work = lent_work chk.exit load.exit own.exit deg.exit;
+      code = lent var.new coef.new row.new start.new col.new order.new parity.new info.new a.new;
+      work = lent_work chk.new load.new own.new deg.new;
     })
         (new_code n m seed degrees.now
-        (lent var.entry coef.entry row.entry start.entry col.entry order.entry parity.entry info.entry a.entry)
-        (lent_work chk.entry load.entry own.entry deg.entry)) }
+        (lent var.old coef.old row.old start.old col.old order.old parity.old info.old a.old)
+        (lent_work chk.old load.old own.old deg.old)) }
 {
     let work = refusals::work_misfit(chk.len(), load.len(), own.len(), deg.len(), false);
     let code = refusals::code_misfit(

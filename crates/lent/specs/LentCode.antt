@@ -1,7 +1,6 @@
 -- How a lent code turns a call down: numbers 2, 3, 6 and 7, and the work parts that the test of a lent code takes. Document 01, "Turning a call down".
 -- Assumes nothing.
 use Rattle.std.specs.Prelude.{◌≡◌, Bool, List, [], ◌∷◌, ◌++◌, ℕ, length}
-use Rattle.std.specs.Borrow.{Bor}
 use Rattle.calls.specs.Refusal.{refusal, misfits, misfit}
 use Rattle.calls.specs.Parts.{worked}
 use Rattle.graph.specs.declared.Code.{Code}
@@ -20,8 +19,8 @@ pub record MatrixWork : Type 0 where
   pub pivots : List ℕ
 
 -- what stands in them
-abbrev pub lent_matrix : Bor (List ℕ) → Bor (List ℕ) → MatrixWork
-lent_matrix h pivots = record { h = h.now; pivots = pivots.now }
+abbrev pub lent_matrix : List ℕ → List ℕ → MatrixWork
+lent_matrix h pivots = record { h = h; pivots = pivots }
 
 abbrev pub matrix_lengths : MatrixWork → List (ℕ × ℕ)
 matrix_lengths w = (length w.h, 65536) ∷ (length w.pivots, 256) ∷ []

@@ -1,4 +1,6 @@
 // The one place that tells whether what is lent is a code: every call on a lent code begins here.
+#![tactic(auto)]
+
 ghost use Rattle.std.specs.Prelude.{◌≡◌, ◌∷◌, [], length};
 ghost use Rattle.calls.specs.Refusal.{refusal};
 ghost use Rattle.graph.specs.Parts.{lent};
@@ -28,11 +30,11 @@ fn bad_code(
     h: &mut [u8],
     pivots: &mut [u16],
 ) -> u8
-    requires fits { Fits code (lent var coef row start col order parity info a) }
+    requires fits { Fits code (lent var.now coef.now row.now start.now col.now order.now parity.now info.now a.now) }
     requires h_len { (length h.old ≡ 65536) × (length pivots.old ≡ 256) }
     ensures { result ≡ refusal
-        ((malformed code (lent var.entry coef.entry row.entry start.entry col.entry order.entry parity.entry info.entry a.entry), 6)
-        ∷ (misencoded code (lent var.entry coef.entry row.entry start.entry col.entry order.entry parity.entry info.entry a.entry), 7) ∷ []) }
+        ((malformed code (lent var.now coef.now row.now start.now col.now order.now parity.now info.now a.now), 6)
+        ∷ (misencoded code (lent var.now coef.now row.now start.now col.now order.now parity.now info.now a.now), 7) ∷ []) }
 {
     if malformed::malformed(code, var, coef, row, start, col, order, parity, info, a) {
         return 6;
@@ -63,9 +65,9 @@ pub fn refused(
     rest: bool,
 ) -> u8
     ensures value { result ≡ refusal (refusals code
-        (lent var.entry coef.entry row.entry start.entry col.entry order.entry parity.entry info.entry a.entry)
-        (lent_matrix h.entry pivots.entry) rest) }
-    ensures fact { ◌≡◌ {A = MatrixWork} (lent_matrix h.exit pivots.exit) (matrix_left result (lent_matrix h.entry pivots.entry)) }
+        (lent var.now coef.now row.now start.now col.now order.now parity.now info.now a.now)
+        (lent_matrix h.old pivots.old) rest) }
+    ensures fact { ◌≡◌ {A = MatrixWork} (lent_matrix h.new pivots.new) (matrix_left result (lent_matrix h.old pivots.old)) }
 {
     let work = (h.len() != 65536) | ((pivots.len() != 256) | rest);
     let misfit = refusals::code_misfit(

@@ -189,8 +189,8 @@ fn unused_hold(
     info: &[u16],
     a: &[u8],
 ) -> bool
-    requires { Fits code (lent var coef row start col order parity info a) }
-    ensures { result ≡ unused_hold code (lent var.entry coef.entry row.entry start.entry col.entry order.entry parity.entry info.entry a.entry) }
+    requires { Fits code (lent var.now coef.now row.now start.now col.now order.now parity.now info.now a.now) }
+    ensures { result ≡ unused_hold code (lent var.now coef.now row.now start.now col.now order.now parity.now info.now a.now) }
 {
     let k = info_count(code.n, code.rank);
     used_past_u16(code.edges, var)
@@ -216,8 +216,8 @@ pub fn malformed(
     info: &[u16],
     a: &[u8],
 ) -> bool
-    requires { Fits code (lent var coef row start col order parity info a) }
-    ensures { result ≡ malformed code (lent var.entry coef.entry row.entry start.entry col.entry order.entry parity.entry info.entry a.entry) }
+    requires { Fits code (lent var.now coef.now row.now start.now col.now order.now parity.now info.now a.now) }
+    ensures { result ≡ malformed code (lent var.now coef.now row.now start.now col.now order.now parity.now info.now a.now) }
 {
     if code.edges > 512 {
         return true;

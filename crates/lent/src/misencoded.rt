@@ -91,10 +91,10 @@ pub fn misencoded(
     h: &mut [u8],
     pivots: &mut [u16],
 ) -> bool
-    requires fits { Fits code (lent var coef row start col order parity info a) }
-    requires formed { Formed code (lent var coef row start col order parity info a) }
+    requires fits { Fits code (lent var.now coef.now row.now start.now col.now order.now parity.now info.now a.now) }
+    requires formed { Formed code (lent var.now coef.now row.now start.now col.now order.now parity.now info.now a.now) }
     requires h_len { (length h.old ≡ 65536) × (length pivots.old ≡ 256) }
-    ensures { result ≡ misencoded code (lent var.entry coef.entry row.entry start.entry col.entry order.entry parity.entry info.entry a.entry) }
+    ensures { result ≡ misencoded code (lent var.now coef.now row.now start.now col.now order.now parity.now info.now a.now) }
 {
     matrix(code.m, var, coef, row, h);
     let r = eliminate(code.n, code.m, order, h, pivots);

@@ -1,4 +1,6 @@
 // Peeling of a lent code, and the code in the column order that it gives: the second information set.
+#![tactic(auto)]
+
 ghost use Rattle.std.specs.Prelude.{◌≡◌};
 ghost use Rattle.graph.specs.Parts.{lent};
 ghost use Rattle.lent.specs.LentCode.{lent_matrix};
@@ -38,9 +40,9 @@ pub fn peel_picks(
     h: &mut [u8],
     pivots: &mut [u16],
 ) -> Number
-    ensures { ◌≡◌ {A = Filled Number} (record { answer = result; part = picks.new; work = lent_matrix h.exit pivots.exit })
-        (peel_picks code (lent var.entry coef.entry row.entry start.entry col.entry order.entry parity.entry info.entry a.entry)
-        prefer.now picks.old (lent_matrix h.entry pivots.entry)) }
+    ensures { ◌≡◌ {A = Filled Number} (record { answer = result; part = picks.new; work = lent_matrix h.new pivots.new })
+        (peel_picks code (lent var.now coef.now row.now start.now col.now order.now parity.now info.now a.now)
+        prefer.now picks.old (lent_matrix h.old pivots.old)) }
 {
     let refused = lent::refused(
         code,
@@ -83,11 +85,11 @@ pub fn with_peeled_info(
 ) -> NewCode
     ensures { ◌≡◌ {A = Recoded} (record {
       answer = result;
-      code = lent var.exit coef.exit row.exit start.exit col.exit order.exit parity.exit info.exit a.exit;
-      work = lent_matrix h.exit pivots.exit;
+      code = lent var.now coef.now row.now start.now col.now order.new parity.new info.new a.new;
+      work = lent_matrix h.new pivots.new;
     })
-        (with_peeled_info code (lent var.entry coef.entry row.entry start.entry col.entry order.entry parity.entry info.entry a.entry)
-        prefer.now (lent_matrix h.entry pivots.entry)) }
+        (with_peeled_info code (lent var.now coef.now row.now start.now col.now order.old parity.old info.old a.old)
+        prefer.now (lent_matrix h.old pivots.old)) }
 {
     let refused = lent::refused(
         code,

@@ -7,7 +7,7 @@ use crate::print;
 // How many there are.
 pub const CALLS: usize = 17;
 
-#[derive(Drop)]
+#[derive(Clone, Copy)]
 pub enum Call {
     Mul,
     Inv,
@@ -21,7 +21,7 @@ pub enum Call {
 }
 
 // The calls on a code that is lent.
-#[derive(Drop)]
+#[derive(Clone, Copy)]
 pub enum Ask {
     Encode,
     InfoOf,
@@ -34,14 +34,14 @@ pub enum Ask {
     ListDecode,
 }
 
-#[derive(Drop)]
+#[derive(Clone, Copy)]
 pub enum Named {
     Is(Call),
     Unknown,
 }
 
 // What became of a case.
-#[derive(Drop)]
+#[derive(Clone, Copy)]
 pub enum Outcome {
     Same,
     Differs,
@@ -107,138 +107,138 @@ fn ask_named(word: &[u8]) -> Named {
     Named::Unknown
 }
 
-pub fn print_name(call: Call) {
+pub fn print_name(rt: &HostRuntime, call: Call) {
     match call {
-        Call::Mul => print::text(b"mul"),
-        Call::Inv => print::text(b"inv"),
-        Call::Draws => print::text(b"draws"),
-        Call::EvenDegrees => print::text(b"even_degrees"),
-        Call::New => print::text(b"new"),
-        Call::OnCode(ask) => print_name_of_ask(ask),
-        Call::WithPeeledInfo => print::text(b"with_peeled_info"),
-        Call::DecodeSoft => print::text(b"decode_soft"),
-        Call::Decode => print::text(b"decode"),
+        Call::Mul => print::text(rt, b"mul"),
+        Call::Inv => print::text(rt, b"inv"),
+        Call::Draws => print::text(rt, b"draws"),
+        Call::EvenDegrees => print::text(rt, b"even_degrees"),
+        Call::New => print::text(rt, b"new"),
+        Call::OnCode(ask) => print_name_of_ask(rt, ask),
+        Call::WithPeeledInfo => print::text(rt, b"with_peeled_info"),
+        Call::DecodeSoft => print::text(rt, b"decode_soft"),
+        Call::Decode => print::text(rt, b"decode"),
     }
 }
 
-fn print_name_of_ask(ask: Ask) {
+fn print_name_of_ask(rt: &HostRuntime, ask: Ask) {
     match ask {
-        Ask::Encode => print::text(b"encode"),
-        Ask::InfoOf => print::text(b"info_of"),
-        Ask::ChecksOk => print::text(b"checks_ok"),
-        Ask::Degree => print::text(b"degree"),
-        Ask::K => print::text(b"k"),
-        Ask::N => print::text(b"n"),
-        Ask::InfoPositions => print::text(b"info_positions"),
-        Ask::PeelPicks => print::text(b"peel_picks"),
-        Ask::ListDecode => print::text(b"list_decode"),
+        Ask::Encode => print::text(rt, b"encode"),
+        Ask::InfoOf => print::text(rt, b"info_of"),
+        Ask::ChecksOk => print::text(rt, b"checks_ok"),
+        Ask::Degree => print::text(rt, b"degree"),
+        Ask::K => print::text(rt, b"k"),
+        Ask::N => print::text(rt, b"n"),
+        Ask::InfoPositions => print::text(rt, b"info_positions"),
+        Ask::PeelPicks => print::text(rt, b"peel_picks"),
+        Ask::ListDecode => print::text(rt, b"list_decode"),
     }
 }
 
 // Says which of a call's answers it is, the first at place 1. A call with one answer has no word for it.
-pub fn print_answer(call: Call, place: u64) {
+pub fn print_answer(rt: &HostRuntime, call: Call, place: u64) {
     match call {
         Call::Mul => (),
         Call::Inv => (),
         Call::Draws => {
-            print::text(b", draw ");
-            print::number(place);
+            print::text(rt, b", draw ");
+            print::number(rt, place);
         }
         Call::EvenDegrees => match place {
-            1 => print::text(b", number"),
-            _ => print::text(b", digest of degrees"),
+            1 => print::text(rt, b", number"),
+            _ => print::text(rt, b", digest of degrees"),
         },
-        Call::New => print_answer_of_new(place),
-        Call::OnCode(ask) => print_answer_of_ask(ask, place),
-        Call::WithPeeledInfo => print_answer_of_peeled(place),
-        Call::DecodeSoft => print_answer_of_decoding(place),
-        Call::Decode => print_answer_of_decoding(place),
+        Call::New => print_answer_of_new(rt, place),
+        Call::OnCode(ask) => print_answer_of_ask(rt, ask, place),
+        Call::WithPeeledInfo => print_answer_of_peeled(rt, place),
+        Call::DecodeSoft => print_answer_of_decoding(rt, place),
+        Call::Decode => print_answer_of_decoding(rt, place),
     }
 }
 
-fn print_answer_of_new(place: u64) {
+fn print_answer_of_new(rt: &HostRuntime, place: u64) {
     match place {
-        1 => print::text(b", number"),
-        2 => print::text(b", count of edges"),
-        3 => print::text(b", rank"),
-        4..=12 => print_part_of_code(place - 3),
-        13 => print::text(b", digest of the work part chk"),
-        14 => print::text(b", digest of the work part load"),
-        15 => print::text(b", digest of the work part own"),
-        _ => print::text(b", digest of the work part deg"),
+        1 => print::text(rt, b", number"),
+        2 => print::text(rt, b", count of edges"),
+        3 => print::text(rt, b", rank"),
+        4..=12 => print_part_of_code(rt, place - 3),
+        13 => print::text(rt, b", digest of the work part chk"),
+        14 => print::text(rt, b", digest of the work part load"),
+        15 => print::text(rt, b", digest of the work part own"),
+        _ => print::text(rt, b", digest of the work part deg"),
     }
 }
 
-fn print_answer_of_peeled(place: u64) {
+fn print_answer_of_peeled(rt: &HostRuntime, place: u64) {
     match place {
-        1 => print::text(b", number"),
-        2 => print::text(b", rank"),
-        3..=6 => print_part_of_code(place + 3),
-        7 => print::text(b", digest of the work part h"),
-        _ => print::text(b", digest of the work part pivots"),
+        1 => print::text(rt, b", number"),
+        2 => print::text(rt, b", rank"),
+        3..=6 => print_part_of_code(rt, place + 3),
+        7 => print::text(rt, b", digest of the work part h"),
+        _ => print::text(rt, b", digest of the work part pivots"),
     }
 }
 
 // A `decode` has no posteriors, and so no difference at place 4.
-fn print_answer_of_decoding(place: u64) {
+fn print_answer_of_decoding(rt: &HostRuntime, place: u64) {
     match place {
-        1 => print::text(b", number"),
-        2 => print::text(b", count of rounds"),
-        3 => print::text(b", digest of word"),
-        4 => print::text(b", digest of posteriors"),
-        5 => print::text(b", digest of the work part h"),
-        6 => print::text(b", digest of the work part pivots"),
-        _ => print::text(b", digest of the work part vectors"),
+        1 => print::text(rt, b", number"),
+        2 => print::text(rt, b", count of rounds"),
+        3 => print::text(rt, b", digest of word"),
+        4 => print::text(rt, b", digest of posteriors"),
+        5 => print::text(rt, b", digest of the work part h"),
+        6 => print::text(rt, b", digest of the work part pivots"),
+        _ => print::text(rt, b", digest of the work part vectors"),
     }
 }
 
 // The parts as a line's damage counts them.
-fn print_part_of_code(part: u64) {
+fn print_part_of_code(rt: &HostRuntime, part: u64) {
     match part {
-        1 => print::text(b", digest of var"),
-        2 => print::text(b", digest of coef"),
-        3 => print::text(b", digest of row"),
-        4 => print::text(b", digest of start"),
-        5 => print::text(b", digest of col"),
-        6 => print::text(b", digest of order"),
-        7 => print::text(b", digest of parity"),
-        8 => print::text(b", digest of info"),
-        _ => print::text(b", digest of a"),
+        1 => print::text(rt, b", digest of var"),
+        2 => print::text(rt, b", digest of coef"),
+        3 => print::text(rt, b", digest of row"),
+        4 => print::text(rt, b", digest of start"),
+        5 => print::text(rt, b", digest of col"),
+        6 => print::text(rt, b", digest of order"),
+        7 => print::text(rt, b", digest of parity"),
+        8 => print::text(rt, b", digest of info"),
+        _ => print::text(rt, b", digest of a"),
     }
 }
 
-fn print_answer_of_ask(ask: Ask, place: u64) {
+fn print_answer_of_ask(rt: &HostRuntime, ask: Ask, place: u64) {
     match place {
-        1 => print::text(b", number"),
-        2 => print_found(ask),
-        3 => print_part(ask),
-        4 => print::text(b", digest of the work part h"),
-        _ => print::text(b", digest of the work part pivots"),
+        1 => print::text(rt, b", number"),
+        2 => print_found(rt, ask),
+        3 => print_part(rt, ask),
+        4 => print::text(rt, b", digest of the work part h"),
+        _ => print::text(rt, b", digest of the work part pivots"),
     }
 }
 
 // What a call finds beside its output part. `encode` finds nothing.
-fn print_found(ask: Ask) {
+fn print_found(rt: &HostRuntime, ask: Ask) {
     match ask {
         Ask::Encode => (),
-        Ask::InfoOf => print::text(b", count of symbols"),
-        Ask::ChecksOk => print::text(b", verdict"),
-        Ask::Degree => print::text(b", degree"),
-        Ask::K => print::text(b", k"),
-        Ask::N => print::text(b", n"),
-        Ask::InfoPositions => print::text(b", count of positions"),
-        Ask::PeelPicks => print::text(b", count of picks"),
-        Ask::ListDecode => print::text(b", count of rounds"),
+        Ask::InfoOf => print::text(rt, b", count of symbols"),
+        Ask::ChecksOk => print::text(rt, b", verdict"),
+        Ask::Degree => print::text(rt, b", degree"),
+        Ask::K => print::text(rt, b", k"),
+        Ask::N => print::text(rt, b", n"),
+        Ask::InfoPositions => print::text(rt, b", count of positions"),
+        Ask::PeelPicks => print::text(rt, b", count of picks"),
+        Ask::ListDecode => print::text(rt, b", count of rounds"),
     }
 }
 
 // The output part of a call that has one.
-fn print_part(ask: Ask) {
+fn print_part(rt: &HostRuntime, ask: Ask) {
     match ask {
-        Ask::Encode | Ask::ListDecode => print::text(b", digest of word"),
-        Ask::InfoOf => print::text(b", digest of syms"),
-        Ask::InfoPositions => print::text(b", digest of positions"),
-        Ask::PeelPicks => print::text(b", digest of picks"),
+        Ask::Encode | Ask::ListDecode => print::text(rt, b", digest of word"),
+        Ask::InfoOf => print::text(rt, b", digest of syms"),
+        Ask::InfoPositions => print::text(rt, b", digest of positions"),
+        Ask::PeelPicks => print::text(rt, b", digest of picks"),
         _ => (),
     }
 }

@@ -7,7 +7,7 @@ use graph::{Code, NewCode};
 
 // What `graph::new` answers and leaves, the work parts by their digests. By value, since fields of a struct are not lent side by side.
 // The parts stand first, in the order of a call: the prover's search finds them so.
-#[derive(Drop)]
+#[derive(Clone, Copy)]
 pub struct Built {
     pub var: [u16; 512],
     pub coef: [u8; 512],

@@ -7,6 +7,7 @@ use crate::cases::{Call, Outcome};
 use crate::{cases, print};
 
 pub fn compare_one(
+    rt: &HostRuntime,
     name: &[u8],
     line: u64,
     call: Call,
@@ -19,13 +20,14 @@ pub fn compare_one(
     if ours == listed {
         return Outcome::Same;
     }
-    print_case(name, line, call, arguments);
-    print::answers(ours, listed);
+    print_case(rt, name, line, call, arguments);
+    print::answers(rt, ours, listed);
     Outcome::Differs
 }
 
 // As many answers as the list has.
 pub fn compare_all(
+    rt: &HostRuntime,
     name: &[u8],
     line: u64,
     call: Call,
@@ -40,19 +42,20 @@ pub fn compare_all(
     if k == ours.len() {
         return Outcome::Same;
     }
-    print_differences(name, line, call, arguments, ours, listed);
+    print_differences(rt, name, line, call, arguments, ours, listed);
     Outcome::Differs
 }
 
-fn print_case(name: &[u8], line: u64, call: Call, arguments: &[u64]) {
-    print::place(name, line);
-    print::text(b": ");
-    cases::print_name(call);
-    print::numbers(arguments);
+fn print_case(rt: &HostRuntime, name: &[u8], line: u64, call: Call, arguments: &[u64]) {
+    print::place(rt, name, line);
+    print::text(rt, b": ");
+    cases::print_name(rt, call);
+    print::numbers(rt, arguments);
 }
 
 // A line for each.
 fn print_differences(
+    rt: &HostRuntime,
     name: &[u8],
     line: u64,
     call: Call,
@@ -65,9 +68,9 @@ fn print_differences(
     let mut k = 0;
     while k < ours.len() {
         if ours[k] != listed[k] {
-            print_case(name, line, call, arguments);
-            cases::print_answer(call, k as u64 + 1);
-            print::answers(ours[k], listed[k]);
+            print_case(rt, name, line, call, arguments);
+            cases::print_answer(rt, call, k as u64 + 1);
+            print::answers(rt, ours[k], listed[k]);
         }
         k += 1;
     }

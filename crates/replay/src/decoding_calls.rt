@@ -12,7 +12,7 @@ use decoders::Decoding;
 use graph::{Answer, Code};
 
 // The word that was sent, at the front of 257 entries, and the generator's state after its symbols.
-#[derive(Drop)]
+#[derive(Clone, Copy)]
 struct Sent {
     is_understood: bool,
     word: [u8; 257],
@@ -20,7 +20,7 @@ struct Sent {
 }
 
 // A damaged code, metrics at the front of 8,224 entries, and the word that was sent, at the front of 257.
-#[derive(Drop)]
+#[derive(Clone, Copy)]
 struct Given {
     is_understood: bool,
     built: Built,
@@ -29,25 +29,25 @@ struct Given {
 }
 
 // decode_soft CODE DAMAGE RULE DRAWS SPREAD PEAK KNOWN LIMIT NUMBER ROUNDS WORD POSTERIORS
-pub fn decode_soft(name: &[u8], line: u64, numbers: &[u64]) -> Outcome {
+pub fn decode_soft(rt: &HostRuntime, name: &[u8], line: u64, numbers: &[u64]) -> Outcome {
     if numbers.len() != 19 {
         return Outcome::Misread;
     }
     let listed = [numbers[15], numbers[16], numbers[17], numbers[18]];
-    replayed(name, line, Call::DecodeSoft, &numbers[0..15], listed)
+    replayed(rt, name, line, Call::DecodeSoft, &numbers[0..15], listed)
 }
 
 // decode CODE DAMAGE RULE DRAWS SPREAD PEAK KNOWN LIMIT NUMBER ROUNDS WORD
-pub fn decode(name: &[u8], line: u64, numbers: &[u64]) -> Outcome {
+pub fn decode(rt: &HostRuntime, name: &[u8], line: u64, numbers: &[u64]) -> Outcome {
     if numbers.len() != 18 {
         return Outcome::Misread;
     }
     let listed = [numbers[15], numbers[16], numbers[17], 0];
-    replayed(name, line, Call::Decode, &numbers[0..15], listed)
+    replayed(rt, name, line, Call::Decode, &numbers[0..15], listed)
 }
 
 // list_decode CODE DAMAGE RULE DRAWS SPREAD PEAK KNOWN RULE DRAWS SPREAD PEAK WIDTH NUMBER ROUNDS WORD
-pub fn list_decode(name: &[u8], line: u64, numbers: &[u64]) -> Outcome {
+pub fn list_decode(rt: &HostRuntime, name: &[u8], line: u64, numbers: &[u64]) -> Outcome {
     if numbers.len() != 22 {
         return Outcome::Misread;
     }
@@ -68,6 +68,7 @@ pub fn list_decode(name: &[u8], line: u64, numbers: &[u64]) -> Outcome {
     let mut word = [1u8; 257];
     let ours = list_decoded(built, metrics, posteriors, width, &mut word[0..n]);
     word_calls::compared(
+        rt,
         name,
         line,
         Ask::ListDecode,
@@ -80,7 +81,14 @@ pub fn list_decode(name: &[u8], line: u64, numbers: &[u64]) -> Outcome {
 }
 
 // CODE DAMAGE RULE DRAWS SPREAD PEAK KNOWN LIMIT, and then what the line lists
-fn replayed(name: &[u8], line: u64, call: Call, l: &[u64], listed: [u64; 4]) -> Outcome
+fn replayed(
+    rt: &HostRuntime,
+    name: &[u8],
+    line: u64,
+    call: Call,
+    l: &[u64],
+    listed: [u64; 4],
+) -> Outcome
     requires { length l.now ≡ 15 }
 {
     let known = l[13];
@@ -102,7 +110,7 @@ fn replayed(name: &[u8], line: u64, call: Call, l: &[u64], listed: [u64; 4]) -> 
     let built = given.built;
     let metrics = given.metrics;
     let ours = decoded(call, built, n, metrics, known as u32, limit as u32);
-    compared(name, line, call, l, ours, listed)
+    compared(rt, name, line, call, l, ours, listed)
 }
 
 // CODE DAMAGE RULE DRAWS SPREAD PEAK KNOWN, the code of n variables. The word that was sent is of the code before the damage.
@@ -337,6 +345,7 @@ fn number_of(answer: Answer) -> u64 {
 
 // With what the line lists: NUMBER, ROUNDS, WORD and POSTERIORS. The digests of the work parts follow from NUMBER.
 fn compared(
+    rt: &HostRuntime,
     name: &[u8],
     line: u64,
     call: Call,
@@ -354,5 +363,5 @@ fn compared(
         digest::small_work(number),
         digest::vectors(number),
     ];
-    compare::compare_all(name, line, call, arguments, &ours, &all)
+    compare::compare_all(rt, name, line, call, arguments, &ours, &all)
 }

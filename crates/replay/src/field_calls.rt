@@ -8,7 +8,7 @@ use field::splitmix64::SplitMix64;
 use field::{gf, splitmix64};
 
 // mul A B PRODUCT
-pub fn mul(name: &[u8], line: u64, numbers: &[u64]) -> Outcome {
+pub fn mul(rt: &HostRuntime, name: &[u8], line: u64, numbers: &[u64]) -> Outcome {
     if numbers.len() != 3 {
         return Outcome::Misread;
     }
@@ -21,11 +21,11 @@ pub fn mul(name: &[u8], line: u64, numbers: &[u64]) -> Outcome {
         return Outcome::Misread;
     }
     let ours = gf::mul(a as u8, b as u8) as u64;
-    compare::compare_one(name, line, Call::Mul, &numbers[0..2], ours, numbers[2])
+    compare::compare_one(rt, name, line, Call::Mul, &numbers[0..2], ours, numbers[2])
 }
 
 // inv A INVERSE
-pub fn inv(name: &[u8], line: u64, numbers: &[u64]) -> Outcome {
+pub fn inv(rt: &HostRuntime, name: &[u8], line: u64, numbers: &[u64]) -> Outcome {
     if numbers.len() != 2 {
         return Outcome::Misread;
     }
@@ -37,11 +37,11 @@ pub fn inv(name: &[u8], line: u64, numbers: &[u64]) -> Outcome {
         return Outcome::Misread;
     }
     let ours = gf::inv(a as u8) as u64;
-    compare::compare_one(name, line, Call::Inv, &numbers[0..1], ours, numbers[1])
+    compare::compare_one(rt, name, line, Call::Inv, &numbers[0..1], ours, numbers[1])
 }
 
 // draws SEED COUNT D1 .. DCOUNT
-pub fn draws(name: &[u8], line: u64, numbers: &[u64]) -> Outcome {
+pub fn draws(rt: &HostRuntime, name: &[u8], line: u64, numbers: &[u64]) -> Outcome {
     // With no draw there is nothing to compare.
     if numbers.len() < 3 {
         return Outcome::Misread;
@@ -54,13 +54,27 @@ pub fn draws(name: &[u8], line: u64, numbers: &[u64]) -> Outcome {
         return Outcome::Misread;
     }
     let mut ours = [0u64; 16];
-    compare_draws(name, line, numbers, &mut ours[0..n])
+    compare_draws(rt, name, line, numbers, &mut ours[0..n])
 }
 
 // As many draws as `ours` has entries, which the list has after the seed and the count.
-fn compare_draws(name: &[u8], line: u64, numbers: &[u64], ours: &mut [u64]) -> Outcome
+fn compare_draws(
+    rt: &HostRuntime,
+    name: &[u8],
+    line: u64,
+    numbers: &[u64],
+    ours: &mut [u64],
+) -> Outcome
     requires { length numbers.now ≡ length ours.old + 2 }
 {
     splitmix64::draws(SplitMix64 { state: numbers[0] }, ours);
-    compare::compare_all(name, line, Call::Draws, &numbers[0..2], ours, &numbers[2..])
+    compare::compare_all(
+        rt,
+        name,
+        line,
+        Call::Draws,
+        &numbers[0..2],
+        ours,
+        &numbers[2..],
+    )
 }

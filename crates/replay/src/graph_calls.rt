@@ -8,7 +8,7 @@ use crate::{code, compare, digest};
 use graph::Answer;
 
 // even_degrees N E NUMBER DEGREES
-pub fn even_degrees(name: &[u8], line: u64, numbers: &[u64]) -> Outcome {
+pub fn even_degrees(rt: &HostRuntime, name: &[u8], line: u64, numbers: &[u64]) -> Outcome {
     if numbers.len() != 4 {
         return Outcome::Misread;
     }
@@ -19,6 +19,7 @@ pub fn even_degrees(name: &[u8], line: u64, numbers: &[u64]) -> Outcome {
     let mut degrees = [1usize; 257];
     let ours = spread(numbers[1] as usize, &mut degrees[0..n]);
     compare::compare_all(
+        rt,
         name,
         line,
         Call::EvenDegrees,
@@ -37,7 +38,7 @@ fn spread(e: usize, degrees: &mut [usize]) -> [u64; 2] {
 }
 
 // new CODE NUMBER EDGES RANK VAR COEF ROW START COL ORDER PARITY INFO A
-pub fn new(name: &[u8], line: u64, numbers: &[u64]) -> Outcome {
+pub fn new(rt: &HostRuntime, name: &[u8], line: u64, numbers: &[u64]) -> Outcome {
     if numbers.len() != 18 {
         return Outcome::Misread;
     }
@@ -47,7 +48,7 @@ pub fn new(name: &[u8], line: u64, numbers: &[u64]) -> Outcome {
     }
     let ours = answers_of_new(built);
     let listed = listed_of_new(&numbers[6..18]);
-    compare::compare_all(name, line, Call::New, &numbers[0..6], &ours, &listed)
+    compare::compare_all(rt, name, line, Call::New, &numbers[0..6], &ours, &listed)
 }
 
 // In the order of `cases::print_answer_of_new`.

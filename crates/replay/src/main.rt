@@ -1,4 +1,6 @@
 // Replays fixed lists of answers against the library, and prints what differs and where. The lists stand in data/, and what a good run prints in stdout.
+#![tactic(auto)]
+
 mod cases;
 mod code;
 mod compare;
@@ -18,14 +20,14 @@ mod symbols;
 mod tally;
 mod word_calls;
 
-fn main() {
-    run::replay(b"splitmix64.txt");
-    run::replay(b"field.txt");
-    run::replay(b"graph.txt");
-    run::replay(b"words.txt");
-    run::replay(b"peeling.txt");
-    run::replay(b"decoding.txt");
-    run::replay(b"list_decoding.txt");
+fn main(rt: HostRuntime) {
+    run::replay(&rt, "splitmix64.txt");
+    run::replay(&rt, "field.txt");
+    run::replay(&rt, "graph.txt");
+    run::replay(&rt, "words.txt");
+    run::replay(&rt, "peeling.txt");
+    run::replay(&rt, "decoding.txt");
+    run::replay(&rt, "list_decoding.txt");
     // Wrong on purpose. What is printed of it shows that a wrong case would be seen in the others.
-    run::replay(b"wrong.txt");
+    run::replay(&rt, "wrong.txt");
 }

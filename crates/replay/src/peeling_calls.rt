@@ -9,7 +9,7 @@ use crate::{code, compare, digest, on_code, preferences, word_calls};
 use graph::NewCode;
 
 // A damaged code, and preferences at the front of 257 entries.
-#[derive(Drop)]
+#[derive(Clone, Copy)]
 struct Given {
     is_understood: bool,
     built: Built,
@@ -17,7 +17,7 @@ struct Given {
 }
 
 // peel_picks CODE DAMAGE RULE SHIFT NUMBER COUNT PICKS
-pub fn peel_picks(name: &[u8], line: u64, numbers: &[u64]) -> Outcome {
+pub fn peel_picks(rt: &HostRuntime, name: &[u8], line: u64, numbers: &[u64]) -> Outcome {
     if numbers.len() != 14 {
         return Outcome::Misread;
     }
@@ -34,6 +34,7 @@ pub fn peel_picks(name: &[u8], line: u64, numbers: &[u64]) -> Outcome {
     let mut picks = [1u16; 257];
     let ours = picked(built, prefer, &mut picks[0..n]);
     word_calls::compared(
+        rt,
         name,
         line,
         Ask::PeelPicks,
@@ -46,7 +47,7 @@ pub fn peel_picks(name: &[u8], line: u64, numbers: &[u64]) -> Outcome {
 }
 
 // with_peeled_info CODE DAMAGE RULE SHIFT NUMBER RANK ORDER PARITY INFO A
-pub fn with_peeled_info(name: &[u8], line: u64, numbers: &[u64]) -> Outcome {
+pub fn with_peeled_info(rt: &HostRuntime, name: &[u8], line: u64, numbers: &[u64]) -> Outcome {
     if numbers.len() != 17 {
         return Outcome::Misread;
     }
@@ -73,6 +74,7 @@ pub fn with_peeled_info(name: &[u8], line: u64, numbers: &[u64]) -> Outcome {
         digest::small_work(number),
     ];
     compare::compare_all(
+        rt,
         name,
         line,
         Call::WithPeeledInfo,

@@ -1,51 +1,49 @@
-// Writes to standard output. What a failed write leaves out is missed where the output is compared, so no answer of `io` is tested here.
-use libc::STDOUT_FILENO;
-
-pub fn text(words: &[u8]) {
-    io::write_all(STDOUT_FILENO, words);
+// Writes to standard output. What a failed write leaves out is missed where the output is compared, so no answer of std is tested here.
+pub fn text(rt: &HostRuntime, words: &[u8]) {
+    let _ = rt.write_all(words);
 }
 
-pub fn number(n: u64) {
-    io::print_decimal(STDOUT_FILENO, n);
+pub fn number(rt: &HostRuntime, n: u64) {
+    let _ = rt.print(n);
 }
 
 // A word about the list as a whole.
-pub fn about(name: &[u8], words: &[u8]) {
-    text(name);
-    text(words);
+pub fn about(rt: &HostRuntime, name: &[u8], words: &[u8]) {
+    text(rt, name);
+    text(rt, words);
 }
 
 // A line of the list, quoted.
-pub fn quoted(name: &[u8], line: u64, words: &[u8], quote: &[u8]) {
-    place(name, line);
-    text(words);
-    text(quote);
-    text(b"\n");
+pub fn quoted(rt: &HostRuntime, name: &[u8], line: u64, words: &[u8], quote: &[u8]) {
+    place(rt, name, line);
+    text(rt, words);
+    text(rt, quote);
+    text(rt, b"\n");
 }
 
-pub fn place(name: &[u8], line: u64) {
-    text(name);
-    text(b" line ");
-    number(line);
+pub fn place(rt: &HostRuntime, name: &[u8], line: u64) {
+    text(rt, name);
+    text(rt, b" line ");
+    number(rt, line);
 }
 
-pub fn numbers(all: &[u64]) {
+pub fn numbers(rt: &HostRuntime, all: &[u64]) {
     let mut i = 0;
     while i < all.len() {
-        next_number(all[i]);
+        next_number(rt, all[i]);
         i += 1;
     }
 }
 
-fn next_number(n: u64) {
-    text(b" ");
-    number(n);
+fn next_number(rt: &HostRuntime, n: u64) {
+    text(rt, b" ");
+    number(rt, n);
 }
 
-pub fn answers(ours: u64, listed: u64) {
-    text(b" is ");
-    number(ours);
-    text(b", the list has ");
-    number(listed);
-    text(b"\n");
+pub fn answers(rt: &HostRuntime, ours: u64, listed: u64) {
+    text(rt, b" is ");
+    number(rt, ours);
+    text(rt, b", the list has ");
+    number(rt, listed);
+    text(rt, b"\n");
 }

@@ -9,14 +9,14 @@ use crate::on_code::Asked;
 use crate::{code, compare, damage, digest, on_code, symbols};
 
 // A word at the front of 257 entries.
-#[derive(Drop)]
+#[derive(Clone, Copy)]
 struct Word {
     is_understood: bool,
     word: [u8; 257],
 }
 
 // A damaged code, and a word of it before.
-#[derive(Drop)]
+#[derive(Clone, Copy)]
 struct Given {
     is_understood: bool,
     built: Built,
@@ -24,7 +24,7 @@ struct Given {
 }
 
 // encode CODE DAMAGE COUNT DRAWS LIMIT NUMBER WORD
-pub fn encode(name: &[u8], line: u64, numbers: &[u64]) -> Outcome {
+pub fn encode(rt: &HostRuntime, name: &[u8], line: u64, numbers: &[u64]) -> Outcome {
     if numbers.len() != 14 {
         return Outcome::Misread;
     }
@@ -42,6 +42,7 @@ pub fn encode(name: &[u8], line: u64, numbers: &[u64]) -> Outcome {
     let asked = ask_of(built, Ask::Encode, n, symbols, count);
     let ours = asked.answers;
     compared(
+        rt,
         name,
         line,
         Ask::Encode,
@@ -54,7 +55,7 @@ pub fn encode(name: &[u8], line: u64, numbers: &[u64]) -> Outcome {
 }
 
 // info_of CODE DAMAGE COUNT DRAWS LIMIT PLACE CHANGE NUMBER K SYMS
-pub fn info_of(name: &[u8], line: u64, numbers: &[u64]) -> Outcome {
+pub fn info_of(rt: &HostRuntime, name: &[u8], line: u64, numbers: &[u64]) -> Outcome {
     if numbers.len() != 17 {
         return Outcome::Misread;
     }
@@ -71,6 +72,7 @@ pub fn info_of(name: &[u8], line: u64, numbers: &[u64]) -> Outcome {
     let asked = ask_of(built, Ask::InfoOf, n, word, n);
     let ours = asked.answers;
     compared(
+        rt,
         name,
         line,
         Ask::InfoOf,
@@ -83,7 +85,7 @@ pub fn info_of(name: &[u8], line: u64, numbers: &[u64]) -> Outcome {
 }
 
 // checks_ok CODE DAMAGE COUNT DRAWS LIMIT PLACE CHANGE NUMBER OK
-pub fn checks_ok(name: &[u8], line: u64, numbers: &[u64]) -> Outcome {
+pub fn checks_ok(rt: &HostRuntime, name: &[u8], line: u64, numbers: &[u64]) -> Outcome {
     if numbers.len() != 16 {
         return Outcome::Misread;
     }
@@ -100,6 +102,7 @@ pub fn checks_ok(name: &[u8], line: u64, numbers: &[u64]) -> Outcome {
     let asked = ask_of(built, Ask::ChecksOk, n, word, n);
     let ours = asked.answers;
     compared(
+        rt,
         name,
         line,
         Ask::ChecksOk,
@@ -112,7 +115,7 @@ pub fn checks_ok(name: &[u8], line: u64, numbers: &[u64]) -> Outcome {
 }
 
 // degree CODE DAMAGE V NUMBER DEGREE
-pub fn degree(name: &[u8], line: u64, numbers: &[u64]) -> Outcome {
+pub fn degree(rt: &HostRuntime, name: &[u8], line: u64, numbers: &[u64]) -> Outcome {
     if numbers.len() != 12 {
         return Outcome::Misread;
     }
@@ -123,6 +126,7 @@ pub fn degree(name: &[u8], line: u64, numbers: &[u64]) -> Outcome {
     let asked = on_code::ask(built, Ask::Degree, 0, numbers[9] as usize, b"");
     let ours = asked.answers;
     compared(
+        rt,
         name,
         line,
         Ask::Degree,
@@ -135,7 +139,7 @@ pub fn degree(name: &[u8], line: u64, numbers: &[u64]) -> Outcome {
 }
 
 // k CODE DAMAGE NUMBER K
-pub fn k(name: &[u8], line: u64, numbers: &[u64]) -> Outcome {
+pub fn k(rt: &HostRuntime, name: &[u8], line: u64, numbers: &[u64]) -> Outcome {
     if numbers.len() != 11 {
         return Outcome::Misread;
     }
@@ -146,6 +150,7 @@ pub fn k(name: &[u8], line: u64, numbers: &[u64]) -> Outcome {
     let asked = on_code::ask(built, Ask::K, 0, 0, b"");
     let ours = asked.answers;
     compared(
+        rt,
         name,
         line,
         Ask::K,
@@ -158,7 +163,7 @@ pub fn k(name: &[u8], line: u64, numbers: &[u64]) -> Outcome {
 }
 
 // n CODE DAMAGE NUMBER SYMBOLS
-pub fn n(name: &[u8], line: u64, numbers: &[u64]) -> Outcome {
+pub fn n(rt: &HostRuntime, name: &[u8], line: u64, numbers: &[u64]) -> Outcome {
     if numbers.len() != 11 {
         return Outcome::Misread;
     }
@@ -169,6 +174,7 @@ pub fn n(name: &[u8], line: u64, numbers: &[u64]) -> Outcome {
     let asked = on_code::ask(built, Ask::N, 0, 0, b"");
     let ours = asked.answers;
     compared(
+        rt,
         name,
         line,
         Ask::N,
@@ -181,7 +187,7 @@ pub fn n(name: &[u8], line: u64, numbers: &[u64]) -> Outcome {
 }
 
 // info_positions CODE DAMAGE NUMBER K POSITIONS
-pub fn info_positions(name: &[u8], line: u64, numbers: &[u64]) -> Outcome {
+pub fn info_positions(rt: &HostRuntime, name: &[u8], line: u64, numbers: &[u64]) -> Outcome {
     if numbers.len() != 12 {
         return Outcome::Misread;
     }
@@ -195,6 +201,7 @@ pub fn info_positions(name: &[u8], line: u64, numbers: &[u64]) -> Outcome {
     let asked = on_code::ask(built, Ask::InfoPositions, numbers[0] as usize, 0, b"");
     let ours = asked.answers;
     compared(
+        rt,
         name,
         line,
         Ask::InfoPositions,
@@ -260,6 +267,7 @@ pub fn ask_of(b: Built, ask: Ask, n: usize, symbols: [u8; 257], count: usize) ->
 
 // With what the line lists: NUMBER, what a call finds and the digest of its output part. The digests of the work parts follow from NUMBER.
 pub fn compared(
+    rt: &HostRuntime,
     name: &[u8],
     line: u64,
     ask: Ask,
@@ -272,5 +280,5 @@ pub fn compared(
     let large = digest::large_work(number);
     let small = digest::small_work(number);
     let listed = [number, found, part, large, small];
-    compare::compare_all(name, line, Call::OnCode(ask), arguments, &ours, &listed)
+    compare::compare_all(rt, name, line, Call::OnCode(ask), arguments, &ours, &listed)
 }

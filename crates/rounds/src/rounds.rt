@@ -14,7 +14,7 @@ use vectors::multiplied::products;
 use words::checks::all_satisfied;
 
 // Whether a round satisfied all checks, and how many were made.
-#[derive(Drop)]
+#[derive(Clone, Copy)]
 pub struct Ended {
     pub satisfied: bool,
     pub rounds: u32,

@@ -5,7 +5,7 @@ ghost use Rattle.vectors.specs.Likeliest.{likeliest_two, margin};
 
 use crate::multiplied::raise;
 
-#[derive(Drop)]
+#[derive(Clone, Copy)]
 pub struct Two {
     pub first: u8,
     pub second: u8,

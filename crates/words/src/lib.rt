@@ -1,5 +1,7 @@
 // Words of a lent code. The public calls of document 01's part 3 stand here; each begins with the test of the lent code, which works in `h` and `pivots`, and is
 // turned down by number.
+#![tactic(auto)]
+
 ghost use Rattle.std.specs.Prelude.{◌≡◌};
 ghost use Rattle.graph.specs.declared.Answer.{Answer};
 ghost use Rattle.graph.specs.Parts.{lent};
@@ -24,14 +26,14 @@ pub mod encoder;
 mod positions;
 
 // Of a call that finds a number.
-#[derive(Drop)]
+#[derive(Clone, Copy)]
 pub enum Number {
     Found(usize),
     Refused(u8),
 }
 
 // Of a call that tells whether something is so.
-#[derive(Drop)]
+#[derive(Clone, Copy)]
 pub enum Verdict {
     Checked(bool),
     Refused(u8),
@@ -54,9 +56,9 @@ pub fn encode(
     h: &mut [u8],
     pivots: &mut [u16],
 ) -> Answer
-    ensures { ◌≡◌ {A = Filled Answer} (record { answer = result; part = word.new; work = lent_matrix h.exit pivots.exit })
-        (encode code (lent var.entry coef.entry row.entry start.entry col.entry order.entry parity.entry info.entry a.entry)
-        syms.now word.old (lent_matrix h.entry pivots.entry)) }
+    ensures { ◌≡◌ {A = Filled Answer} (record { answer = result; part = word.new; work = lent_matrix h.new pivots.new })
+        (encode code (lent var.now coef.now row.now start.now col.now order.now parity.now info.now a.now)
+        syms.now word.old (lent_matrix h.old pivots.old)) }
 {
     let refused = lent::refused(
         code,
@@ -101,9 +103,9 @@ pub fn info_of(
     h: &mut [u8],
     pivots: &mut [u16],
 ) -> Number
-    ensures { ◌≡◌ {A = Filled Number} (record { answer = result; part = syms.new; work = lent_matrix h.exit pivots.exit })
-        (info_of code (lent var.entry coef.entry row.entry start.entry col.entry order.entry parity.entry info.entry a.entry)
-        word.now syms.old (lent_matrix h.entry pivots.entry)) }
+    ensures { ◌≡◌ {A = Filled Number} (record { answer = result; part = syms.new; work = lent_matrix h.new pivots.new })
+        (info_of code (lent var.now coef.now row.now start.now col.now order.now parity.now info.now a.now)
+        word.now syms.old (lent_matrix h.old pivots.old)) }
 {
     let refused = lent::refused(
         code,
@@ -148,9 +150,9 @@ pub fn checks_ok(
     h: &mut [u8],
     pivots: &mut [u16],
 ) -> Verdict
-    ensures { ◌≡◌ {A = Told Verdict} (record { answer = result; work = lent_matrix h.exit pivots.exit })
-        (checks_ok code (lent var.entry coef.entry row.entry start.entry col.entry order.entry parity.entry info.entry a.entry)
-        word.now (lent_matrix h.entry pivots.entry)) }
+    ensures { ◌≡◌ {A = Told Verdict} (record { answer = result; work = lent_matrix h.new pivots.new })
+        (checks_ok code (lent var.now coef.now row.now start.now col.now order.now parity.now info.now a.now)
+        word.now (lent_matrix h.old pivots.old)) }
 {
     let refused = lent::refused(
         code,
@@ -195,9 +197,9 @@ pub fn degree(
     h: &mut [u8],
     pivots: &mut [u16],
 ) -> Number
-    ensures { ◌≡◌ {A = Told Number} (record { answer = result; work = lent_matrix h.exit pivots.exit })
-        (degree_of code (lent var.entry coef.entry row.entry start.entry col.entry order.entry parity.entry info.entry a.entry)
-        v (lent_matrix h.entry pivots.entry)) }
+    ensures { ◌≡◌ {A = Told Number} (record { answer = result; work = lent_matrix h.new pivots.new })
+        (degree_of code (lent var.now coef.now row.now start.now col.now order.now parity.now info.now a.now)
+        v (lent_matrix h.old pivots.old)) }
 {
     let refused = lent::refused(
         code, var, coef, row, start, col, order, parity, info, a, h, pivots, false,
@@ -226,9 +228,9 @@ pub fn k(
     h: &mut [u8],
     pivots: &mut [u16],
 ) -> Number
-    ensures { ◌≡◌ {A = Told Number} (record { answer = result; work = lent_matrix h.exit pivots.exit })
-        (k_of code (lent var.entry coef.entry row.entry start.entry col.entry order.entry parity.entry info.entry a.entry)
-        (lent_matrix h.entry pivots.entry)) }
+    ensures { ◌≡◌ {A = Told Number} (record { answer = result; work = lent_matrix h.new pivots.new })
+        (k_of code (lent var.now coef.now row.now start.now col.now order.now parity.now info.now a.now)
+        (lent_matrix h.old pivots.old)) }
 {
     let refused = lent::refused(
         code, var, coef, row, start, col, order, parity, info, a, h, pivots, false,
@@ -254,9 +256,9 @@ pub fn n(
     h: &mut [u8],
     pivots: &mut [u16],
 ) -> Number
-    ensures { ◌≡◌ {A = Told Number} (record { answer = result; work = lent_matrix h.exit pivots.exit })
-        (n_of code (lent var.entry coef.entry row.entry start.entry col.entry order.entry parity.entry info.entry a.entry)
-        (lent_matrix h.entry pivots.entry)) }
+    ensures { ◌≡◌ {A = Told Number} (record { answer = result; work = lent_matrix h.new pivots.new })
+        (n_of code (lent var.now coef.now row.now start.now col.now order.now parity.now info.now a.now)
+        (lent_matrix h.old pivots.old)) }
 {
     let refused = lent::refused(
         code, var, coef, row, start, col, order, parity, info, a, h, pivots, false,
@@ -283,9 +285,9 @@ pub fn info_positions(
     h: &mut [u8],
     pivots: &mut [u16],
 ) -> Number
-    ensures { ◌≡◌ {A = Filled Number} (record { answer = result; part = positions.new; work = lent_matrix h.exit pivots.exit })
-        (info_positions code (lent var.entry coef.entry row.entry start.entry col.entry order.entry parity.entry info.entry a.entry)
-        positions.old (lent_matrix h.entry pivots.entry)) }
+    ensures { ◌≡◌ {A = Filled Number} (record { answer = result; part = positions.new; work = lent_matrix h.new pivots.new })
+        (info_positions code (lent var.now coef.now row.now start.now col.now order.now parity.now info.now a.now)
+        positions.old (lent_matrix h.old pivots.old)) }
 {
     let refused = lent::refused(
         code,
