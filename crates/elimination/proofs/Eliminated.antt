@@ -1,5 +1,5 @@
 -- What elimination gives, for every matrix of field elements and every order of its columns: the same solutions, a unit vector in each pivot column,
--- and 0 below the rank in each column column_turn.
+-- and 0 below the rank in each column turned.
 -- Assumes nothing.
 use mathlib.Core.Path.{◌≡◌, ap, ◌∙◌}
 use mathlib.Core.Logic.{◌≢◌, ⊎_elim, ◌↔◌}
@@ -21,7 +21,7 @@ use Rattle.elimination.specs.Solutions.{Solves}
 use Rattle.elimination.proofs.Swapped.{swapped_each, swapped_r, swapped_other, swapped_solves}
 use Rattle.elimination.proofs.Cleared.{cleared-lt, cleared_keep, cleared_one, cleared-zero, cleared_solves}
 
--- k columns of the order are column_turn
+-- k columns of the order are turned
 pub record Eliminated (m n : ℕ) (order : ℕ → ℕ) (h : Matrix) (k : ℕ) (s : State) : Type 0 where
   pub small : (i j : ℕ) → s.matrix i j < 32
   pub rank_rows : s.rank ≤ m
@@ -30,7 +30,7 @@ pub record Eliminated (m n : ℕ) (order : ℕ → ℕ) (h : Matrix) (k : ℕ) (
   -- a pivot column is a unit vector
   pub one : (i : ℕ) → i < s.rank → s.matrix i (s.pivot i) ≡ 1
   pub unit : (i l : ℕ) → i < s.rank → l < m → l ≢ i → s.matrix l (s.pivot i) ≡ 0
-  -- rows past the rank are 0 in the columns column_turn
+  -- rows past the rank are 0 in the columns turned
   pub past : (t l : ℕ) → t < k → s.rank ≤ l → l < m → s.matrix l (order t) ≡ 0
 
 -- ---- a column with a pivot
