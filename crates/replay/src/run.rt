@@ -1,4 +1,6 @@
 // Replays a list: reads its file, takes it line by line, and makes the call of each case.
+ghost use Rattle.std.specs.Prelude.{◌≤◌, length};
+
 use crate::cases::{Ask, Call, Named, Outcome};
 use crate::list::Cursor;
 use crate::tally::Tally;
@@ -16,14 +18,30 @@ pub fn replay(rt: &HostRuntime, list: &str) {
     }
 }
 
-// One byte more than a list may have is read, which tells whether it has more.
-fn replay_file(rt: &HostRuntime, name: &[u8], file: File) {
-    let mut text = Vec::new(rt.alloc());
-    match file.take(65537).read_to_end(&mut text) {
-        Ok(n) if n > 65536 => print::about(rt, name, b": longer than 65536 bytes\n"),
-        Ok(_) => replay_text(rt, name, &text),
+fn replay_file(rt: &HostRuntime, name: &[u8], mut file: File) {
+    let mut text = [0u8; 65536];
+    let n = read_full(&mut file, &mut text);
+    // `read_full` stops at the file's end, at a read that fails and where `text` is full. One read more tells which it was.
+    let mut rest = [0u8; 1];
+    match file.read(&mut rest) {
+        Ok(0) => replay_text(rt, name, &text[..n]),
+        Ok(_) => print::about(rt, name, b": longer than 65536 bytes\n"),
         Err(_) => print::about(rt, name, b": cannot be read\n"),
     }
+}
+
+// Reads until `text` is full, the file ends or a read fails, and tells how many bytes it put at the start of `text`.
+fn read_full(file: &mut File, text: &mut [u8]) -> usize
+    ensures { result ≤ length text.new }
+{
+    let mut done = 0;
+    while done < text.len() {
+        match file.read(&mut text[done..]) {
+            Ok(n) if n > 0 => done += n,
+            _ => break,
+        }
+    }
+    done
 }
 
 fn replay_text(rt: &HostRuntime, name: &[u8], text: &[u8]) {
