@@ -1,4 +1,4 @@
--- The product of two numbers of two digits each in base P, modulo P-as-P: the middle products keep their lower digit and the upper one drops out.
+-- The product of two numbers of two digits each in base P, modulo P·P: the middle products keep their lower digit and the upper one drops out.
 -- Assumes nothing.
 use Rattle.std.proofs.Common.{◌≡◌, ℕ, ◌+◌, ◌*◌, ◌/◌, ◌%◌, ◌^◌, ◌<◌, sym, refl, ap, ◌∙◌, ap₂, lt_of_le_of_lt, le_of_lt, add_assoc, mul_assoc, mul_comm, add-mul, add_comm, mul-le-mul_left, div-add-mod', mul-add, mul_left_comm, shl_lt}
 use native.Mathlib.Nat.{add_left_comm, add-mod-mod, mul-add-mod_self_right}
