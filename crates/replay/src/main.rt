@@ -21,13 +21,13 @@ mod tally;
 mod word_calls;
 
 fn main(rt: HostRuntime) {
-    run::replay(&rt, "splitmix64.txt");
-    run::replay(&rt, "field.txt");
-    run::replay(&rt, "graph.txt");
-    run::replay(&rt, "words.txt");
-    run::replay(&rt, "peeling.txt");
-    run::replay(&rt, "decoding.txt");
-    run::replay(&rt, "list_decoding.txt");
+    run::replay(&rt, b"splitmix64.txt");
+    run::replay(&rt, b"field.txt");
+    run::replay(&rt, b"graph.txt");
+    run::replay(&rt, b"words.txt");
+    run::replay(&rt, b"peeling.txt");
+    run::replay(&rt, b"decoding.txt");
+    run::replay(&rt, b"list_decoding.txt");
     // Wrong on purpose. What is printed of it shows that a wrong case would be seen in the others.
-    run::replay(&rt, "wrong.txt");
+    run::replay(&rt, b"wrong.txt");
 }

@@ -10,12 +10,14 @@ use crate::{
 use std::fs::File;
 use std::io::Read;
 
-pub fn replay(rt: &HostRuntime, list: &str) {
-    let name = list.as_bytes();
-    match File::open(rt, list) {
-        Ok(file) => replay_file(rt, name, file),
-        Err(_) => print::about(rt, name, b": cannot be opened\n"),
+pub fn replay(rt: &HostRuntime, name: &[u8]) {
+    // std's paths are text.
+    if let Ok(path) = std::str::from_utf8(name) {
+        if let Ok(file) = File::open(rt, path) {
+            return replay_file(rt, name, file);
+        }
     }
+    print::about(rt, name, b": cannot be opened\n");
 }
 
 fn replay_file(rt: &HostRuntime, name: &[u8], mut file: File) {
