@@ -1,10 +1,2 @@
-pub mod OneNumber
-pub mod Mul
-pub mod Inv
-pub mod Draws
-pub mod EvenDegrees
-pub mod NewCode
-pub mod OnCode
-pub mod ChecksOk
-pub mod WithPeeledInfo
-pub mod Decoding
+pub mod Held
+pub mod Field

@@ -1,14 +1,19 @@
-// The exported calls of the decoders. The count of rounds is written whatever the number.
-ghost use Rattle.std.specs.Prelude.{◌≡◌};
-ghost use Rattle.graph.specs.Parts.{lent};
-ghost use Rattle.lent.specs.LentCode.{lent_matrix};
-ghost use Rattle.decoders.specs.DecodeSoft.{decode_soft};
-ghost use Rattle.decoders.specs.Decode.{decode};
-ghost use Rattle.decoders.specs.ListDecode.{list_decode};
-ghost use Rattle.abi.specs.OnCode.{code_of};
-ghost use Rattle.abi.specs.Decoding.{SoftDecoding, soft_decoding, HardDecoding, hard_decoding, ListDecoding, list_decoding};
+// The exported calls of the decoders. The count of rounds is written whatever the number. The C interface has a code's numbers and parts one by one.
+ghost use Rattle.std.specs.Prelude.{◌≡◌, length};
+ghost use Rattle.calls.specs.Refusal.{answer_number};
+ghost use Rattle.calls.specs.Parts.{worked, written, posted, counted};
+ghost use Rattle.lent.specs.LentCode.{graph_of};
+ghost use Rattle.vectors.specs.Float32.{zero32};
+ghost use Rattle.candidates.specs.ListWord.{list_word};
+ghost use Rattle.decoders.specs.BeliefPropagation.{rounds as rounds_made};
+ghost use Rattle.decoders.specs.DecodeSoft.{soft_answer, last_decisions, last_posteriors};
+ghost use Rattle.decoders.specs.Decode.{decode_answer};
+ghost use Rattle.decoders.specs.ListDecode.{list_answer};
+ghost use Rattle.abi.specs.Held.{held_of};
 
-use graph::{Answer, Code};
+use crate::number_of;
+use graph::Code;
+use lent::Lent;
 
 #[unsafe(no_mangle)]
 pub extern "C" fn hazgunek_decode_soft(
@@ -35,28 +40,33 @@ pub extern "C" fn hazgunek_decode_soft(
     pivots: &mut [u16],
     vectors: &mut [f32],
 ) -> u8
-    ensures { ◌≡◌ {A = SoftDecoding} (record {
-      number = result;
-      rounds = rounds.new;
-      word = word.new;
-      posteriors = posteriors.new;
-      work = lent_matrix h.new pivots.new;
-      vectors = vectors.new;
-    })
-        (soft_decoding (decode_soft (code_of n m edges rank) (lent var.now coef.now row.now start.now col.now order.now parity.now info.now a.now)
-        metrics.now known limit word.old posteriors.old (lent_matrix h.old pivots.old) vectors.old)) }
+    ensures { let l = held_of n m edges rank var.now coef.now row.now start.now col.now order.now parity.now info.now a.now in
+        let answer = soft_answer l.code l.parts metrics.now known limit (length word.old) (length posteriors.old) (length h.old) (length pivots.old) (length vectors.old)
+        in (result ≡ answer_number answer)
+        × (rounds.new ≡ counted answer (rounds_made l.code l.parts metrics.now known limit))
+        × (word.new ≡ written answer word.old (last_decisions l.code l.parts metrics.now known limit))
+        × (posteriors.new ≡ posted answer posteriors.old (last_posteriors l.code l.parts metrics.now known limit))
+        × (h.new ≡ worked answer 0 h.old)
+        × (pivots.new ≡ worked answer 0 pivots.old)
+        × (vectors.new ≡ worked answer zero32 vectors.old) }
 {
-    let code = Code { n, m, edges, rank };
+    let code = Lent {
+        numbers: Code { n, m, edges, rank },
+        var,
+        coef,
+        row,
+        start,
+        col,
+        order,
+        parity,
+        info,
+        a,
+    };
     let soft = decoders::decode_soft(
-        code, var, coef, row, start, col, order, parity, info, a, metrics, known, limit, word,
-        posteriors, h, pivots, vectors,
+        &code, metrics, known, limit, word, posteriors, h, pivots, vectors,
     );
     *rounds = soft.rounds;
-    let answer = soft.answer;
-    match answer {
-        Answer::Done => 0,
-        Answer::Refused(number) => number,
-    }
+    number_of(soft.answer)
 }
 
 #[unsafe(no_mangle)]
@@ -83,27 +93,30 @@ pub extern "C" fn hazgunek_decode(
     pivots: &mut [u16],
     vectors: &mut [f32],
 ) -> u8
-    ensures { ◌≡◌ {A = HardDecoding} (record {
-      number = result;
-      rounds = rounds.new;
-      word = word.new;
-      work = lent_matrix h.new pivots.new;
-      vectors = vectors.new;
-    })
-        (hard_decoding (decode (code_of n m edges rank) (lent var.now coef.now row.now start.now col.now order.now parity.now info.now a.now)
-        metrics.now known limit word.old (lent_matrix h.old pivots.old) vectors.old)) }
+    ensures { let l = held_of n m edges rank var.now coef.now row.now start.now col.now order.now parity.now info.now a.now in
+        let answer = decode_answer l.code l.parts metrics.now known limit (length word.old) (length h.old) (length pivots.old) (length vectors.old)
+        in (result ≡ answer_number answer)
+        × (rounds.new ≡ counted answer (rounds_made l.code l.parts metrics.now known limit))
+        × (word.new ≡ written answer word.old (last_decisions l.code l.parts metrics.now known limit))
+        × (h.new ≡ worked answer 0 h.old)
+        × (pivots.new ≡ worked answer 0 pivots.old)
+        × (vectors.new ≡ worked answer zero32 vectors.old) }
 {
-    let code = Code { n, m, edges, rank };
-    let hard = decoders::decode(
-        code, var, coef, row, start, col, order, parity, info, a, metrics, known, limit, word, h,
-        pivots, vectors,
-    );
+    let code = Lent {
+        numbers: Code { n, m, edges, rank },
+        var,
+        coef,
+        row,
+        start,
+        col,
+        order,
+        parity,
+        info,
+        a,
+    };
+    let hard = decoders::decode(&code, metrics, known, limit, word, h, pivots, vectors);
     *rounds = hard.rounds;
-    let answer = hard.answer;
-    match answer {
-        Answer::Done => 0,
-        Answer::Refused(number) => number,
-    }
+    number_of(hard.answer)
 }
 
 // There are no rounds: the count that is written is 0.
@@ -130,19 +143,27 @@ pub extern "C" fn hazgunek_list_decode(
     h: &mut [u8],
     pivots: &mut [u16],
 ) -> u8
-    ensures { ◌≡◌ {A = ListDecoding} (record { number = result; rounds = rounds.new; word = word.new; work = lent_matrix h.new pivots.new })
-        (list_decoding (list_decode (code_of n m edges rank) (lent var.now coef.now row.now start.now col.now order.now parity.now info.now a.now)
-        metrics.now posteriors.now width word.old (lent_matrix h.old pivots.old))) }
+    ensures { let l = held_of n m edges rank var.now coef.now row.now start.now col.now order.now parity.now info.now a.now in
+        let answer = list_answer l.code l.parts metrics.now posteriors.now width (length word.old) (length h.old) (length pivots.old)
+        in (result ≡ answer_number answer)
+        × (rounds.new ≡ 0)
+        × (word.new ≡ written answer word.old (list_word (graph_of l) l.parts.order posteriors.now metrics.now width))
+        × (h.new ≡ worked answer 0 h.old)
+        × (pivots.new ≡ worked answer 0 pivots.old) }
 {
-    let code = Code { n, m, edges, rank };
-    let list = decoders::list_decode(
-        code, var, coef, row, start, col, order, parity, info, a, metrics, posteriors, width, word,
-        h, pivots,
-    );
+    let code = Lent {
+        numbers: Code { n, m, edges, rank },
+        var,
+        coef,
+        row,
+        start,
+        col,
+        order,
+        parity,
+        info,
+        a,
+    };
+    let list = decoders::list_decode(&code, metrics, posteriors, width, word, h, pivots);
     *rounds = list.rounds;
-    let answer = list.answer;
-    match answer {
-        Answer::Done => 0,
-        Answer::Refused(number) => number,
-    }
+    number_of(list.answer)
 }

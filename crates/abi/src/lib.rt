@@ -1,31 +1,46 @@
 // The exported calls: each public call as a C function, declared in include/hazgunek.h. Each answers the number by which it turned the call down, 0 where
-// it did not, and leaves what it found in lent parts.
+// it did not, and leaves what it found in lent parts. The C interface has a code's numbers and parts one by one.
 #![tactic(auto)]
 
-ghost use Rattle.std.specs.Prelude.{◌≡◌};
-ghost use Rattle.abi.specs.OneNumber.{OneNumber};
-ghost use Rattle.abi.specs.Mul.{multiplied};
-ghost use Rattle.abi.specs.Inv.{inverted};
-ghost use Rattle.abi.specs.Draws.{Draws, advanced};
-ghost use Rattle.abi.specs.EvenDegrees.{Spread, spread};
-ghost use Rattle.abi.specs.NewCode.{Exported, exported};
-ghost use Rattle.graph.specs.Parts.{lent};
-ghost use Rattle.graph.specs.New.{lent_work};
+ghost use Rattle.std.specs.Prelude.{◌≡◌, length};
+ghost use Rattle.lists.specs.Values.{values};
+ghost use Rattle.calls.specs.Refusal.{first_of, answered, answer_number};
+ghost use Rattle.calls.specs.Parts.{worked, written};
+ghost use Rattle.field.specs.Field.{product as field_product, inverse as field_inverse};
+ghost use Rattle.field.specs.SplitMix64.{after, drawn};
+ghost use Rattle.graph.specs.EvenDegrees.{even_degree, even_refusals};
+ghost use Rattle.graph.specs.Parts.{Parts, parts, lent};
+ghost use Rattle.graph.specs.Descending.{descending};
+ghost use Rattle.graph.specs.Built.{built};
+ghost use Rattle.graph.specs.New.{numbers, new_refusals, lent_work};
+ghost use Rattle.abi.specs.Field.{mul_refusals, inv_refusals};
 
+use calls::Refusal;
+use field::gf;
 use field::splitmix64::SplitMix64;
-use field::{gf, splitmix64};
-use graph::{Answer, NewCode};
 
 mod decoder_calls;
 mod on_code;
 mod peeling_calls;
 
+// The number of an answer, 0 where the call was not turned down. No plainer as a `From`: neither type is this crate's.
+fn number_of(answer: Result<(), Refusal>) -> u8
+    ensures { result ≡ answer_number answer }
+{
+    match answer {
+        Ok(()) => 0,
+        Err(refusal) => refusal.number(),
+    }
+}
+
 #[unsafe(no_mangle)]
 pub extern "C" fn hazgunek_mul(a: u8, b: u8, product: &mut u8) -> u8
-    ensures { ◌≡◌ {A = OneNumber} (record { number = result; part = product.new }) (multiplied a b product.old) }
+    ensures { let answer = answered (first_of (mul_refusals a b)) (field_product a b)
+        in (result ≡ answer_number answer)
+        × (product.new ≡ written answer product.old (field_product a b)) }
 {
     if (a > 31) | (b > 31) {
-        return 8;
+        return Refusal::Value.number();
     }
     *product = gf::mul(a, b);
     0
@@ -33,10 +48,12 @@ pub extern "C" fn hazgunek_mul(a: u8, b: u8, product: &mut u8) -> u8
 
 #[unsafe(no_mangle)]
 pub extern "C" fn hazgunek_inv(a: u8, inverse: &mut u8) -> u8
-    ensures { ◌≡◌ {A = OneNumber} (record { number = result; part = inverse.new }) (inverted a inverse.old) }
+    ensures { let answer = answered (first_of (inv_refusals a)) (field_inverse a)
+        in (result ≡ answer_number answer)
+        × (inverse.new ≡ written answer inverse.old (field_inverse a)) }
 {
     if (a == 0) | (a > 31) {
-        return 8;
+        return Refusal::Value.number();
     }
     *inverse = gf::inv(a);
     0
@@ -44,21 +61,21 @@ pub extern "C" fn hazgunek_inv(a: u8, inverse: &mut u8) -> u8
 
 #[unsafe(no_mangle)]
 pub extern "C" fn hazgunek_draws(state: &mut u64, draws: &mut [u64]) -> u8
-    ensures { ◌≡◌ {A = Draws} (record { number = result; state = state.new; draws = draws.new }) (advanced state.old draws.old) }
+    ensures { (result ≡ 0) × (state.new ≡ after (length draws.old) state.old) × (draws.new ≡ drawn (length draws.old) state.old) }
 {
-    let after = splitmix64::draws(SplitMix64 { state: *state }, draws);
-    *state = after.state;
+    let mut generator = SplitMix64 { state: *state };
+    generator.draws(draws);
+    *state = generator.state;
     0
 }
 
 #[unsafe(no_mangle)]
 pub extern "C" fn hazgunek_even_degrees(n: usize, e: usize, degrees: &mut [usize]) -> u8
-    ensures { ◌≡◌ {A = Spread} (record { number = result; degrees = degrees.new }) (spread n e degrees.old) }
+    ensures { let answer = answered (first_of (even_refusals n degrees.old)) (tt {0})
+        in (result ≡ answer_number answer)
+        × (degrees.new ≡ written answer degrees.old (values n (even_degree n e))) }
 {
-    match graph::even_degrees(n, e, degrees) {
-        Answer::Done => 0,
-        Answer::Refused(number) => number,
-    }
+    number_of(graph::even_degrees(n, e, degrees))
 }
 
 #[unsafe(no_mangle)]
@@ -83,26 +100,27 @@ pub extern "C" fn hazgunek_new(
     own: &mut [u8],
     deg: &mut [u16],
 ) -> u8
-    ensures { ◌≡◌ {A = Exported} (record {
-      number = result;
-      edges = edges.new;
-      rank = rank.new;
-      code = lent var.new coef.new row.new start.new col.new order.new parity.new info.new a.new;
-      work = lent_work chk.new load.new own.new deg.new;
-    })
-        (exported n m seed degrees.now edges.old rank.old
-        (lent var.old coef.old row.old start.old col.old order.old parity.old info.old a.old)
-        (lent_work chk.old load.old own.old deg.old)) }
+    ensures { let given = lent var.old coef.old row.old start.old col.old order.old parity.old info.old a.old in
+        let graph = built n m degrees.now seed in
+        let answer = answered (first_of (new_refusals n m degrees.now given (lent_work chk.old load.old own.old deg.old))) (numbers graph (descending n))
+        in (result ≡ answer_number answer)
+        × (edges.new ≡ written answer edges.old (numbers graph (descending n)).edges)
+        × (rank.new ≡ written answer rank.old (numbers graph (descending n)).rank)
+        × (◌≡◌ {A = Parts} (lent var.new coef.new row.new start.new col.new order.new parity.new info.new a.new) (written answer given (parts graph (descending n))))
+        × (chk.new ≡ worked answer 0 chk.old)
+        × (load.new ≡ worked answer 0 load.old)
+        × (own.new ≡ worked answer 0 own.old)
+        × (deg.new ≡ worked answer 0 deg.old) }
 {
     match graph::new(
         n, m, seed, degrees, var, coef, row, start, col, order, parity, info, a, chk, load, own,
         deg,
     ) {
-        NewCode::Built(code) => {
+        Ok(code) => {
             *edges = code.edges;
             *rank = code.rank;
             0
         }
-        NewCode::Refused(number) => number,
+        Err(refusal) => refusal.number(),
     }
 }

@@ -1,30 +1,23 @@
-// The exported calls on a lent code. The code's numbers come first, then its parts; `h` and `pivots` are work parts.
-ghost use Rattle.std.specs.Prelude.{◌≡◌};
-ghost use Rattle.lists.specs.Choice.{pick};
-ghost use Rattle.graph.specs.Parts.{lent};
-ghost use Rattle.lent.specs.LentCode.{lent_matrix};
-ghost use Rattle.words.specs.Encode.{encode};
-ghost use Rattle.words.specs.InfoOf.{info_of};
-ghost use Rattle.words.specs.ChecksOk.{checks_ok};
-ghost use Rattle.words.specs.Degree.{degree_of};
+// The exported calls on a lent code. The code's numbers come first, then its parts; `h` and `pivots` are work parts. The C interface has a code's numbers and parts one
+// by one, so each call takes them flat and makes a `Lent` of them.
+ghost use Rattle.std.specs.Prelude.{◌≡◌, false, length};
+ghost use Rattle.std.specs.Int.{from_bool};
+ghost use Rattle.calls.specs.Refusal.{first_of, answered, answer_number};
+ghost use Rattle.calls.specs.Parts.{worked, written};
+ghost use Rattle.lent.specs.LentCode.{graph_of, lent_refusals};
+ghost use Rattle.words.specs.Word.{all_satisfied};
+ghost use Rattle.words.specs.Encode.{encode_refusals, encoded};
+ghost use Rattle.words.specs.InfoOf.{info_of_refusals, own_symbols, own_part};
+ghost use Rattle.words.specs.ChecksOk.{checks_ok_refusals};
+ghost use Rattle.words.specs.Degree.{degree_in, degree_refusals};
 ghost use Rattle.words.specs.K.{k_of};
 ghost use Rattle.words.specs.N.{n_of};
-ghost use Rattle.words.specs.InfoPositions.{info_positions};
-ghost use Rattle.abi.specs.OnCode.{code_of, FoundNumber, found_number, FoundPart, found_part, FilledPart, filled_part};
-ghost use Rattle.abi.specs.ChecksOk.{checked};
+ghost use Rattle.words.specs.InfoPositions.{info_positions_refusals, positions_part};
+ghost use Rattle.abi.specs.Held.{held_of};
 
-use graph::{Answer, Code};
-use words::{Number, Verdict};
-
-// 1 for true.
-fn number_of(b: bool) -> u8
-    ensures { result ≡ pick b 1 0 }
-{
-    if b {
-        return 1;
-    }
-    0
-}
+use crate::number_of;
+use graph::Code;
+use lent::Lent;
 
 // The word of the given information symbols.
 #[unsafe(no_mangle)]
@@ -47,17 +40,26 @@ pub extern "C" fn hazgunek_encode(
     h: &mut [u8],
     pivots: &mut [u16],
 ) -> u8
-    ensures { ◌≡◌ {A = FilledPart} (record { number = result; part = word.new; work = lent_matrix h.new pivots.new })
-        (filled_part (encode (code_of n m edges rank) (lent var.now coef.now row.now start.now col.now order.now parity.now info.now a.now)
-        syms.now word.old (lent_matrix h.old pivots.old))) }
+    ensures { let l = held_of n m edges rank var.now coef.now row.now start.now col.now order.now parity.now info.now a.now in
+        let answer = answered (first_of (encode_refusals l syms.now (length word.old) (length h.old) (length pivots.old))) (tt {0})
+        in (result ≡ answer_number answer)
+        × (word.new ≡ written answer word.old (encoded l syms.now))
+        × (h.new ≡ worked answer 0 h.old)
+        × (pivots.new ≡ worked answer 0 pivots.old) }
 {
-    let code = Code { n, m, edges, rank };
-    match words::encode(
-        code, var, coef, row, start, col, order, parity, info, a, syms, word, h, pivots,
-    ) {
-        Answer::Done => 0,
-        Answer::Refused(number) => number,
-    }
+    let code = Lent {
+        numbers: Code { n, m, edges, rank },
+        var,
+        coef,
+        row,
+        start,
+        col,
+        order,
+        parity,
+        info,
+        a,
+    };
+    number_of(words::encode(&code, syms, word, h, pivots))
 }
 
 // The word's information symbols, and how many they are.
@@ -82,19 +84,32 @@ pub extern "C" fn hazgunek_info_of(
     h: &mut [u8],
     pivots: &mut [u16],
 ) -> u8
-    ensures { ◌≡◌ {A = FoundPart} (record { number = result; found = count.new; part = syms.new; work = lent_matrix h.new pivots.new })
-        (found_part (info_of (code_of n m edges rank) (lent var.now coef.now row.now start.now col.now order.now parity.now info.now a.now)
-        word.now syms.old (lent_matrix h.old pivots.old)) count.old) }
+    ensures { let l = held_of n m edges rank var.now coef.now row.now start.now col.now order.now parity.now info.now a.now in
+        let answer = answered (first_of (info_of_refusals l word.now (length syms.old) (length h.old) (length pivots.old))) (length (own_symbols l word.now))
+        in (result ≡ answer_number answer)
+        × (count.new ≡ written answer count.old (length (own_symbols l word.now)))
+        × (syms.new ≡ written answer syms.old (own_part l word.now))
+        × (h.new ≡ worked answer 0 h.old)
+        × (pivots.new ≡ worked answer 0 pivots.old) }
 {
-    let code = Code { n, m, edges, rank };
-    match words::info_of(
-        code, var, coef, row, start, col, order, parity, info, a, word, syms, h, pivots,
-    ) {
-        Number::Found(found) => {
+    let code = Lent {
+        numbers: Code { n, m, edges, rank },
+        var,
+        coef,
+        row,
+        start,
+        col,
+        order,
+        parity,
+        info,
+        a,
+    };
+    match words::info_of(&code, word, syms, h, pivots) {
+        Ok(found) => {
             *count = found;
             0
         }
-        Number::Refused(number) => number,
+        Err(refusal) => refusal.number(),
     }
 }
 
@@ -119,19 +134,31 @@ pub extern "C" fn hazgunek_checks_ok(
     h: &mut [u8],
     pivots: &mut [u16],
 ) -> u8
-    ensures { ◌≡◌ {A = FoundNumber} (record { number = result; found = ok.new; work = lent_matrix h.new pivots.new })
-        (checked (checks_ok (code_of n m edges rank) (lent var.now coef.now row.now start.now col.now order.now parity.now info.now a.now)
-        word.now (lent_matrix h.old pivots.old)) ok.old) }
+    ensures { let l = held_of n m edges rank var.now coef.now row.now start.now col.now order.now parity.now info.now a.now in
+        let answer = answered (first_of (checks_ok_refusals l word.now (length h.old) (length pivots.old))) (all_satisfied (graph_of l) word.now)
+        in (result ≡ answer_number answer)
+        × (ok.new ≡ written answer ok.old (from_bool (all_satisfied (graph_of l) word.now)))
+        × (h.new ≡ worked answer 0 h.old)
+        × (pivots.new ≡ worked answer 0 pivots.old) }
 {
-    let code = Code { n, m, edges, rank };
-    match words::checks_ok(
-        code, var, coef, row, start, col, order, parity, info, a, word, h, pivots,
-    ) {
-        Verdict::Checked(b) => {
-            *ok = number_of(b);
+    let code = Lent {
+        numbers: Code { n, m, edges, rank },
+        var,
+        coef,
+        row,
+        start,
+        col,
+        order,
+        parity,
+        info,
+        a,
+    };
+    match words::checks_ok(&code, word, h, pivots) {
+        Ok(found) => {
+            *ok = u8::from(found);
             0
         }
-        Verdict::Refused(number) => number,
+        Err(refusal) => refusal.number(),
     }
 }
 
@@ -156,19 +183,31 @@ pub extern "C" fn hazgunek_degree(
     h: &mut [u8],
     pivots: &mut [u16],
 ) -> u8
-    ensures { ◌≡◌ {A = FoundNumber} (record { number = result; found = degree.new; work = lent_matrix h.new pivots.new })
-        (found_number (degree_of (code_of n m edges rank) (lent var.now coef.now row.now start.now col.now order.now parity.now info.now a.now)
-        v (lent_matrix h.old pivots.old)) degree.old) }
+    ensures { let l = held_of n m edges rank var.now coef.now row.now start.now col.now order.now parity.now info.now a.now in
+        let answer = answered (first_of (degree_refusals l v (length h.old) (length pivots.old))) (degree_in (graph_of l) v)
+        in (result ≡ answer_number answer)
+        × (degree.new ≡ written answer degree.old (degree_in (graph_of l) v))
+        × (h.new ≡ worked answer 0 h.old)
+        × (pivots.new ≡ worked answer 0 pivots.old) }
 {
-    let code = Code { n, m, edges, rank };
-    match words::degree(
-        code, var, coef, row, start, col, order, parity, info, a, v, h, pivots,
-    ) {
-        Number::Found(found) => {
+    let code = Lent {
+        numbers: Code { n, m, edges, rank },
+        var,
+        coef,
+        row,
+        start,
+        col,
+        order,
+        parity,
+        info,
+        a,
+    };
+    match words::degree(&code, v, h, pivots) {
+        Ok(found) => {
             *degree = found;
             0
         }
-        Number::Refused(number) => number,
+        Err(refusal) => refusal.number(),
     }
 }
 
@@ -192,19 +231,31 @@ pub extern "C" fn hazgunek_k(
     h: &mut [u8],
     pivots: &mut [u16],
 ) -> u8
-    ensures { ◌≡◌ {A = FoundNumber} (record { number = result; found = k.new; work = lent_matrix h.new pivots.new })
-        (found_number (k_of (code_of n m edges rank) (lent var.now coef.now row.now start.now col.now order.now parity.now info.now a.now)
-        (lent_matrix h.old pivots.old)) k.old) }
+    ensures { let l = held_of n m edges rank var.now coef.now row.now start.now col.now order.now parity.now info.now a.now in
+        let answer = answered (first_of (lent_refusals l (length h.old) (length pivots.old) false)) (k_of l)
+        in (result ≡ answer_number answer)
+        × (k.new ≡ written answer k.old (k_of l))
+        × (h.new ≡ worked answer 0 h.old)
+        × (pivots.new ≡ worked answer 0 pivots.old) }
 {
-    let code = Code { n, m, edges, rank };
-    match words::k(
-        code, var, coef, row, start, col, order, parity, info, a, h, pivots,
-    ) {
-        Number::Found(found) => {
+    let code = Lent {
+        numbers: Code { n, m, edges, rank },
+        var,
+        coef,
+        row,
+        start,
+        col,
+        order,
+        parity,
+        info,
+        a,
+    };
+    match words::k(&code, h, pivots) {
+        Ok(found) => {
             *k = found;
             0
         }
-        Number::Refused(number) => number,
+        Err(refusal) => refusal.number(),
     }
 }
 
@@ -228,19 +279,31 @@ pub extern "C" fn hazgunek_n(
     h: &mut [u8],
     pivots: &mut [u16],
 ) -> u8
-    ensures { ◌≡◌ {A = FoundNumber} (record { number = result; found = symbols.new; work = lent_matrix h.new pivots.new })
-        (found_number (n_of (code_of n m edges rank) (lent var.now coef.now row.now start.now col.now order.now parity.now info.now a.now)
-        (lent_matrix h.old pivots.old)) symbols.old) }
+    ensures { let l = held_of n m edges rank var.now coef.now row.now start.now col.now order.now parity.now info.now a.now in
+        let answer = answered (first_of (lent_refusals l (length h.old) (length pivots.old) false)) (n_of l)
+        in (result ≡ answer_number answer)
+        × (symbols.new ≡ written answer symbols.old (n_of l))
+        × (h.new ≡ worked answer 0 h.old)
+        × (pivots.new ≡ worked answer 0 pivots.old) }
 {
-    let code = Code { n, m, edges, rank };
-    match words::n(
-        code, var, coef, row, start, col, order, parity, info, a, h, pivots,
-    ) {
-        Number::Found(found) => {
+    let code = Lent {
+        numbers: Code { n, m, edges, rank },
+        var,
+        coef,
+        row,
+        start,
+        col,
+        order,
+        parity,
+        info,
+        a,
+    };
+    match words::n(&code, h, pivots) {
+        Ok(found) => {
             *symbols = found;
             0
         }
-        Number::Refused(number) => number,
+        Err(refusal) => refusal.number(),
     }
 }
 
@@ -265,18 +328,31 @@ pub extern "C" fn hazgunek_info_positions(
     h: &mut [u8],
     pivots: &mut [u16],
 ) -> u8
-    ensures { ◌≡◌ {A = FoundPart} (record { number = result; found = count.new; part = positions.new; work = lent_matrix h.new pivots.new })
-        (found_part (info_positions (code_of n m edges rank) (lent var.now coef.now row.now start.now col.now order.now parity.now info.now a.now)
-        positions.old (lent_matrix h.old pivots.old)) count.old) }
+    ensures { let l = held_of n m edges rank var.now coef.now row.now start.now col.now order.now parity.now info.now a.now in
+        let answer = answered (first_of (info_positions_refusals l (length positions.old) (length h.old) (length pivots.old))) (k_of l)
+        in (result ≡ answer_number answer)
+        × (count.new ≡ written answer count.old (k_of l))
+        × (positions.new ≡ written answer positions.old (positions_part l))
+        × (h.new ≡ worked answer 0 h.old)
+        × (pivots.new ≡ worked answer 0 pivots.old) }
 {
-    let code = Code { n, m, edges, rank };
-    match words::info_positions(
-        code, var, coef, row, start, col, order, parity, info, a, positions, h, pivots,
-    ) {
-        Number::Found(found) => {
+    let code = Lent {
+        numbers: Code { n, m, edges, rank },
+        var,
+        coef,
+        row,
+        start,
+        col,
+        order,
+        parity,
+        info,
+        a,
+    };
+    match words::info_positions(&code, positions, h, pivots) {
+        Ok(found) => {
             *count = found;
             0
         }
-        Number::Refused(number) => number,
+        Err(refusal) => refusal.number(),
     }
 }

@@ -1,13 +1,14 @@
-// The exported calls that peel a lent code. The code's numbers come first, then its parts; `h` and `pivots` are work parts.
-ghost use Rattle.std.specs.Prelude.{◌≡◌};
-ghost use Rattle.graph.specs.Parts.{lent};
-ghost use Rattle.lent.specs.LentCode.{lent_matrix};
-ghost use Rattle.peeling.specs.PeelPicks.{peel_picks};
-ghost use Rattle.abi.specs.OnCode.{code_of, FoundPart, found_part};
-ghost use Rattle.abi.specs.WithPeeledInfo.{PeeledInfo, peeled_info};
+// The exported calls that peel a lent code. The code's numbers come first, then its parts; `h` and `pivots` are work parts. The C interface has them one by one.
+ghost use Rattle.std.specs.Prelude.{◌≡◌, length};
+ghost use Rattle.calls.specs.Refusal.{first_of, answered, answer_number};
+ghost use Rattle.calls.specs.Parts.{worked, written};
+ghost use Rattle.graph.specs.Parts.{Parts, lent};
+ghost use Rattle.peeling.specs.PeelPicks.{peel_picks_refusals, picked, picks_part};
+ghost use Rattle.peeling.specs.WithPeeledInfo.{peeled_refusals, peeled_code, peeled_parts};
+ghost use Rattle.abi.specs.Held.{code_of, held_of};
 
-use graph::{Code, NewCode};
-use words::Number;
+use graph::Code;
+use lent::Lent;
 
 // The symbols that peeling picks, in order, and how many they are.
 #[unsafe(no_mangle)]
@@ -31,19 +32,32 @@ pub extern "C" fn hazgunek_peel_picks(
     h: &mut [u8],
     pivots: &mut [u16],
 ) -> u8
-    ensures { ◌≡◌ {A = FoundPart} (record { number = result; found = count.new; part = picks.new; work = lent_matrix h.new pivots.new })
-        (found_part (peel_picks (code_of n m edges rank) (lent var.now coef.now row.now start.now col.now order.now parity.now info.now a.now)
-        prefer.now picks.old (lent_matrix h.old pivots.old)) count.old) }
+    ensures { let l = held_of n m edges rank var.now coef.now row.now start.now col.now order.now parity.now info.now a.now in
+        let answer = answered (first_of (peel_picks_refusals l prefer.now (length picks.old) (length h.old) (length pivots.old))) (length (picked l prefer.now))
+        in (result ≡ answer_number answer)
+        × (count.new ≡ written answer count.old (length (picked l prefer.now)))
+        × (picks.new ≡ written answer picks.old (picks_part l prefer.now))
+        × (h.new ≡ worked answer 0 h.old)
+        × (pivots.new ≡ worked answer 0 pivots.old) }
 {
-    let code = Code { n, m, edges, rank };
-    match peeling::peel_picks(
-        code, var, coef, row, start, col, order, parity, info, a, prefer, picks, h, pivots,
-    ) {
-        Number::Found(found) => {
+    let code = Lent {
+        numbers: Code { n, m, edges, rank },
+        var,
+        coef,
+        row,
+        start,
+        col,
+        order,
+        parity,
+        info,
+        a,
+    };
+    match peeling::peel_picks(&code, prefer, picks, h, pivots) {
+        Ok(found) => {
             *count = found;
             0
         }
-        Number::Refused(number) => number,
+        Err(refusal) => refusal.number(),
     }
 }
 
@@ -67,15 +81,14 @@ pub extern "C" fn hazgunek_with_peeled_info(
     h: &mut [u8],
     pivots: &mut [u16],
 ) -> u8
-    ensures { ◌≡◌ {A = PeeledInfo} (record {
-      number = result;
-      rank = rank.new;
-      code = lent var.now coef.now row.now start.now col.now order.new parity.new info.new a.new;
-      work = lent_matrix h.new pivots.new;
-    })
-        (peeled_info (code_of n m edges rank.old)
-        (lent var.now coef.now row.now start.now col.now order.old parity.old info.old a.old)
-        prefer.now (lent_matrix h.old pivots.old)) }
+    ensures { let code = code_of n m edges rank.old in
+        let given = lent var.now coef.now row.now start.now col.now order.old parity.old info.old a.old in
+        let answer = answered (first_of (peeled_refusals code given prefer.now (length h.old) (length pivots.old))) (peeled_code code given prefer.now)
+        in (result ≡ answer_number answer)
+        × (rank.new ≡ written answer rank.old (peeled_code code given prefer.now).rank)
+        × (◌≡◌ {A = Parts} (lent var.now coef.now row.now start.now col.now order.new parity.new info.new a.new) (written answer given (peeled_parts code given prefer.now)))
+        × (h.new ≡ worked answer 0 h.old)
+        × (pivots.new ≡ worked answer 0 pivots.old) }
 {
     let code = Code {
         n,
@@ -86,10 +99,10 @@ pub extern "C" fn hazgunek_with_peeled_info(
     match peeling::with_peeled_info(
         code, var, coef, row, start, col, order, parity, info, a, prefer, h, pivots,
     ) {
-        NewCode::Built(peeled) => {
+        Ok(peeled) => {
             *rank = peeled.rank;
             0
         }
-        NewCode::Refused(number) => number,
+        Err(refusal) => refusal.number(),
     }
 }

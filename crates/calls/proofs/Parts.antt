@@ -1,72 +1,29 @@
--- What each class of numbers makes of an answer and of each kind of lent part.
+-- The refusals' classes, and what an output part that is longer than the answer holds.
 -- Assumes nothing.
 use Prim.Native.Nat.{ℕ, zero, suc, ◌+◌, ◌-◌, ◌≤◌, ◌<◌}
 use mathlib.Core.Path.{◌≡◌, refl, ap, sym, ◌∙◌}
-use mathlib.Core.Logic.{◌≢◌}
 use mathlib.Core.Bool.{true, false}
 use mathlib.Core.List.{List, ◌++◌}
 use native.Mathlib.Omega.{arith}
-use borrow.Author.Tests.{ne_eqb}
-use lib.Dec.{T}
 use lib.ListN.{length, get_or, drop, replicate, length-append, length-replicate, get_or-append, get_or-replicate}
 use lib.Seq.{get_or-append-add}
 use Rattle.lists.specs.Entry.{nth}
 use Rattle.lists.specs.Front.{used_past}
 use Rattle.lists.specs.Laid.{laid}
 use Rattle.lists.proofs.UsedPast.{not_used}
-use Rattle.lists.proofs.Computed.{all_below}
-use Rattle.calls.specs.Parts.{touches_nothing, before_rounds, after_rounds, answered, worked, written, posted, padded}
+use Rattle.calls.specs.declared.Refusal.TheVariants.{RateOrLayout, Size, Length, DegreeSum, DegreeTooHigh, Malformed, Misencoded, Value, WideCheck, NoWord, Padding}
+use Rattle.calls.specs.Parts.{touches_nothing, before_rounds, after_rounds, padded}
 
 -- ---- document 01's numbers are in their classes
 
-one_to_three : T (all_below 3 (λ j. touches_nothing (1 + j)))
-one_to_three = tt
+one_to_three : (touches_nothing RateOrLayout ≡ true) × (touches_nothing Size ≡ true) × (touches_nothing Length ≡ true)
+one_to_three = (refl, refl, refl)
 
-four_to_nine : T (all_below 6 (λ j. before_rounds (4 + j)))
-four_to_nine = tt
+four_to_nine : (before_rounds DegreeSum ≡ true) × (before_rounds DegreeTooHigh ≡ true) × (before_rounds Malformed ≡ true) × (before_rounds Misencoded ≡ true) × (before_rounds Value ≡ true) × (before_rounds WideCheck ≡ true)
+four_to_nine = (refl, refl, refl, refl, refl, refl)
 
-ten_and_eleven : T (all_below 2 (λ j. after_rounds (10 + j)))
-ten_and_eleven = tt
-
--- ---- the answer
-
-pub refused {ℓ} : {A : Type ℓ} (k : ℕ) (R : ℕ → A) (f : A) → k ≢ 0 → answered k R f ≡ R k
-unfolding answered
-refused k R f n = rw (ne_eqb k 0 n)
-
-pub found {ℓ} : {A : Type ℓ} (R : ℕ → A) (f : A) → answered 0 R f ≡ f
-unfolding answered
-found R f = refl
-
--- ---- a work part
-
-pub untouched {ℓ} : {A : Type ℓ} (k : ℕ) (blank : A) (given : List A) → touches_nothing k ≡ true → worked k blank given ≡ given
-unfolding worked
-untouched k blank given e = rw e
-
-pub zeroed {ℓ} : {A : Type ℓ} (k : ℕ) (blank : A) (given : List A) → touches_nothing k ≡ false → worked k blank given ≡ replicate (length given) blank
-unfolding worked
-zeroed k blank given e = rw e
-
--- ---- an output part
-
-pub kept {ℓ} : {A : Type ℓ} (k : ℕ) (given new : A) → k ≢ 0 → written k given new ≡ given
-unfolding written
-kept k given new n = rw (ne_eqb k 0 n)
-
-pub put {ℓ} : {A : Type ℓ} (given new : A) → written 0 given new ≡ new
-unfolding written
-put given new = refl
-
--- ---- posteriors, and the count of rounds
-
-pub unposted {ℓ} : {A : Type ℓ} (k : ℕ) (given new : A) → after_rounds k ≡ false → posted k given new ≡ given
-unfolding posted
-unposted k given new e = rw e
-
-pub posted_new {ℓ} : {A : Type ℓ} (k : ℕ) (given new : A) → after_rounds k ≡ true → posted k given new ≡ new
-unfolding posted
-posted_new k given new e = rw e
+ten_and_eleven : (after_rounds NoWord ≡ true) × (after_rounds Padding ≡ true)
+ten_and_eleven = (refl, refl)
 
 -- ---- an output part that is longer than the answer
 

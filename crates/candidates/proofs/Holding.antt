@@ -27,9 +27,9 @@ use Rattle.elimination.proofs.Infos.{info_no_pivot, infos_ascend, pivots_distinc
 use Rattle.graph.specs.declared.Code.{Code}
 use Rattle.graph.specs.Parts.{Parts}
 use Rattle.lent.specs.Misencoded.{graph_in, reduced_in}
-use Rattle.lent.specs.Sound.{Sound}
+use Rattle.lent.specs.Sound.{IsSound}
 use Rattle.lent.proofs.Encoded.{formed_small, formed_inside}
-use Rattle.lent.proofs.Sound.{sound_eliminated}
+use Rattle.lent.proofs.SoundCode.{sound_eliminated}
 use Rattle.words.specs.Encoding.{information_of, symbol, parity_symbol, encoding}
 use Rattle.words.specs.Linear.{multiple_of}
 use Rattle.words.proofs.Encodings.{encoding_is}
@@ -45,7 +45,7 @@ use Rattle.candidates.proofs.Slots.{least_ext, difference_small}
 use Rattle.candidates.proofs.Stepping.{tried_ext}
 use Rattle.candidates.proofs.Units.{unit_same, unit_other, unit_multiple}
 
-module _ (c : Code) (p : Parts) (w : Sound c p) where
+module _ (c : Code) (p : Parts) (w : IsSound c p) where
   abbrev g : Graph
   g = graph_in c p
 

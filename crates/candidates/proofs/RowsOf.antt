@@ -10,11 +10,10 @@ use lib.Dec.{eqb}
 use lib.ListN.{length, set, take, drop, replicate, length-set, length-drop, length-replicate}
 use lib.Seq.{ext_get_or, length-take-le, get_or-take, get_or-drop, drop-drop, get_or-set_same, get_or-set_other}
 use Rattle.lists.specs.Entry.{nth}
-use Rattle.lists.specs.Keep.{keep_below}
-use Rattle.lists.specs.Laid.{laid_from}
+use Rattle.lists.specs.Laid.{laid, laid_from}
 use Rattle.lists.proofs.Blank.{blank_at}
 use Rattle.lists.proofs.Cases.{less_or_not, same_or_not}
-use Rattle.lists.proofs.Keep.{keep_below-length, keep_below_ext}
+use Rattle.lists.proofs.Keep.{keep_below-length}
 use Rattle.lists.proofs.Laid.{from_length, from_before, from_own, from_after}
 use Rattle.lists.proofs.Placed.{set_small, placed-length, placed_small}
 use Rattle.field.specs.Field.{product}
@@ -55,6 +54,20 @@ row_length n h j few e l = length-take-le n (drop (j * 256) h) (omega (arith, le
 pub row_at : (n : ℕ) (h : List ℕ) (j v : ℕ) → v < n → nth (row_of n h j) v ≡ nth h (j * 256 + v)
 row_at n h j v l = get_or-take n (drop (j * 256) h) v 0 l ∙ get_or-drop (j * 256) h v 0
 
+-- a row in front of a place at which the part is split, and the two parts joined, the second with a list over its front
+pub row_in_front : (n at m : ℕ) (h : List ℕ) → at + n ≤ m → m ≤ length h → take n (drop at (take m h)) ≡ take n (drop at h)
+row_in_front n at m h fits long =
+    let k = length-take-le n (drop at (take m h)) (omega (arith, length-drop at (take m h), length-take-le m h long)) in
+    ext_get_or 0 (take n (drop at (take m h))) (take n (drop at h)) (k ∙ sym (length-take-le n (drop at h) (omega (arith, length-drop at h))))
+    (λ v l.
+    let b : v < n = omega (arith, k) in
+    get_or-take n (drop at (take m h)) v 0 b ∙ get_or-drop at (take m h) v 0 ∙ get_or-take m h (at + v) 0 (omega arith)
+    ∙ sym (get_or-take n (drop at h) v 0 b ∙ get_or-drop at h v 0))
+
+pub joined : (m : ℕ) (l h : List ℕ) → take m h ++ laid l (drop m h) ≡ laid_from m l h
+unfolding laid laid_from
+joined m l h = ap (λ (r : List ℕ). take m h ++ (l ++ r)) (drop-drop (length l) m h)
+
 -- row j written
 module _ (h : List ℕ) (j : ℕ) (ys : List ℕ) (e : length h ≡ 65536) (b : j < 256) (short : length ys ≤ 256) where
   abbrev after : List ℕ
@@ -84,13 +97,6 @@ module _ (h : List ℕ) (j : ℕ) (ys : List ℕ) (e : length h ≡ 65536) (b : 
 pub support-length : (g : List ℕ) → length (support g) ≤ length g
 unfolding support
 support-length g = keep_below-length (λ v. not (eqb (nth g v) 0)) (length g)
-
--- of a row, as code reads it
-pub support_row : (n : ℕ) (h : List ℕ) (j : ℕ) → n ≤ 256 → length h ≡ 65536 → j < 256 → support (row_of n h j) ≡ keep_below (λ v. not (eqb (nth h (j * 256 + v)) 0)) n
-unfolding support
-support_row n h j few e b =
-    ap (keep_below (λ v. not (eqb (nth (row_of n h j) v) 0))) (row_length n h j few e b)
-    ∙ keep_below_ext (λ v. not (eqb (nth (row_of n h j) v) 0)) (λ v. not (eqb (nth h (j * 256 + v)) 0)) n (λ v l. ap (λ (x : ℕ). not (eqb x 0)) (row_at n h j v l))
 
 -- ---- generators with their supports, one after another, over a part of zeros
 

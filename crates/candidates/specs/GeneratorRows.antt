@@ -1,4 +1,4 @@
--- How the parts of a code and the work part hold what list decoding adds to a word: generators stand in rows of 256, and so do their supports. Ours; only contracts of private functions cite it.
+-- How the parts of a code and the work part hold what list decoding adds to a word: generators stand in rows of 256, and so do their supports. Ours; no public call's contract cites it.
 -- Assumes nothing.
 use Rattle.std.specs.Prelude.{ℕ, ◌+◌, ◌*◌, ◌<◌, ◌≤◌, ◌≡◌, List, not, eqb, length, set, take, drop, replicate}
 use Rattle.lists.specs.Entry.{nth}

@@ -1,4 +1,4 @@
--- The word that list decoding finds by the parts in which a code is held. Ours; only contracts of private functions cite it, and it is `list_word`.
+-- The word that list decoding finds by the parts in which a code is held. Ours; laws alone cite it, and it is `list_word`.
 -- Assumes nothing.
 use Rattle.std.specs.Prelude.{ℕ, ◌-◌, ◌^◌, min, List, Float}
 use Rattle.lists.specs.Entry.{nth}

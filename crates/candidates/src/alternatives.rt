@@ -8,23 +8,22 @@ ghost use Rattle.candidates.specs.Alternatives.{likeliest_at, difference_at, mar
 use vectors::likeliest::{likeliest_two, margin};
 use vectors::vector::load;
 
-// Of the first k positions: the likeliest value, what it differs from the second by, and the margin between the two.
+// Of each position: the likeliest value, what it differs from the second by, and the margin between the two.
 pub fn alternatives(
-    k: usize,
     info: &[u16],
     posteriors: &[f32],
     syms: &mut [u8],
     differences: &mut [u8],
     margins: &mut [f32],
 )
-    requires k_in_bounds { (k ≤ length info.now) × (k ≤ length syms.old) × (k ≤ length differences.old) × (k ≤ length margins.old) }
-    requires by_index { (t : ℕ) → t < k → nth info.now t * 32 + 32 ≤ length posteriors.now }
-    ensures syms_after { syms.new ≡ laid (values k (likeliest_at posteriors.now (nth info.now))) syms.old }
-    ensures differences_after { differences.new ≡ laid (values k (difference_at posteriors.now (nth info.now))) differences.old }
-    ensures margins_after { margins.new ≡ laid (values k (margin_at posteriors.now (nth info.now))) margins.old }
+    requires k_in_bounds { (length info.now ≤ length syms.old) × (length info.now ≤ length differences.old) × (length info.now ≤ length margins.old) }
+    requires by_index { (t : ℕ) → t < length info.now → nth info.now t * 32 + 32 ≤ length posteriors.now }
+    ensures syms_after { syms.new ≡ laid (values (length info.now) (likeliest_at posteriors.now (nth info.now))) syms.old }
+    ensures differences_after { differences.new ≡ laid (values (length info.now) (difference_at posteriors.now (nth info.now))) differences.old }
+    ensures margins_after { margins.new ≡ laid (values (length info.now) (margin_at posteriors.now (nth info.now))) margins.old }
 {
-    for t in 0..k {
-        let p = load(posteriors, info[t] as usize);
+    for (t, v) in info.iter().enumerate() {
+        let p = load(posteriors, *v as usize);
         let two = likeliest_two(&p);
         syms[t] = two.first;
         differences[t] = two.first ^ two.second;

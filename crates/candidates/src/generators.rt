@@ -1,13 +1,14 @@
 // What each alternative adds to a word.
 ghost use Rattle.std.specs.Prelude.{◌≡◌, ℕ, ◌+◌, ◌*◌, ◌<◌, ◌≤◌, length, replicate};
 ghost use Rattle.lists.specs.Entry.{nth};
-ghost use Rattle.lists.specs.Laid.{laid_from};
+ghost use Rattle.lists.specs.Laid.{laid};
 ghost use Rattle.words.specs.EncoderParts.{EncoderParts};
 ghost use Rattle.candidates.specs.GeneratorRows.{column, row_of, support, Generators};
 
-use field::multiples::{multiples_of, times};
+use field::multiples::Multiples;
 
-// Slot s at the value d, and the parity symbols by its column of the table: what `encode` makes of d at slot s alone, without the products by 0.
+// Slot s at the value d, and the parity symbols by its column of the table: what `encode` makes of d at slot s alone, without the products by 0. No plainer
+// by a `Sound`, here and below: any encoder's parts will do, and a `Sound` would ask more.
 fn column(
     r: usize,
     k: usize,
@@ -23,27 +24,22 @@ fn column(
 {
     let p = info[s] as usize;
     row[p] = d;
-    let multiples = multiples_of(d);
-    let mut at = s;
-    for i in 0..r {
-        let q = parity[i] as usize;
-        row[q] = times(multiples, a[at]);
-        at += k;
+    let multiples = Multiples::of(d);
+    for (i, q) in parity[..r].iter().enumerate() {
+        row[*q as usize] = multiples.times(a[i * k + s]);
     }
 }
 
-// The positions where row j of `h` is not 0, ascending, to row j + 16. Answers how many they are.
-fn list_support(n: usize, j: usize, h: &mut [u8]) -> usize
-    requires { (n ≤ 256) × (j < 16) × (length h.old ≡ 65536) }
-    ensures value { result ≡ length (support (row_of n h.old j)) }
-    ensures h_after { h.new ≡ laid_from ((j + 16) * 256) (support (row_of n h.old j)) h.old }
+// The positions where a row is not 0, ascending, to the front of `places`, which is lent: so their count is answered.
+fn list_support(row: &[u8], places: &mut [u8]) -> usize
+    requires { (length row.now ≤ 256) × (length row.now ≤ length places.old) }
+    ensures value { result ≡ length (support row.now) }
+    ensures places_after { places.new ≡ laid (support row.now) places.old }
 {
-    let from = j * 256;
-    let to = (j + 16) * 256;
     let mut count = 0;
-    for v in 0..n {
-        if h[from + v] != 0 {
-            h[to + count] = v as u8;
+    for (v, x) in row.iter().enumerate() {
+        if *x != 0 {
+            places[count] = v as u8;
             count += 1;
         }
     }
@@ -70,11 +66,12 @@ pub fn generators(
         (λ j. column n r k parity.now info.now a.now (nth slots.now j) (nth differences.now (nth slots.now j)))
         counts.new h.new }
 {
-    for j in 0..slots.len() {
-        let s = slots[j] as usize;
+    for (j, slot) in slots.iter().enumerate() {
+        let s = *slot as usize;
         let at = j * 256;
         let to = at + n;
         column(r, k, parity, info, a, s, differences[s], &mut h[at..to]);
-        counts[j] = list_support(n, j, h) as u16;
+        let (rows, places) = h.split_at_mut((j + 16) * 256);
+        counts[j] = list_support(&rows[at..to], places) as u16;
     }
 }

@@ -5,7 +5,6 @@ ghost use Rattle.candidates.specs.GeneratorRows.{row_of, Generators};
 ghost use Rattle.candidates.specs.Tried.{tried};
 
 use crate::score::{flip, score};
-use calls::copy::copy_u8;
 
 // All combinations of w generators, which stand in rows of `h` with their supports, added to the word that stands in `best`: the one of the greatest score is left there.
 pub fn try_all(
@@ -23,10 +22,11 @@ pub fn try_all(
     ensures { best.new ≡ (tried metrics.now (row_of (length best.old) h.now) best.old (2 ^ w - 1)).best }
 {
     let n = best.len();
-    copy_u8(best, current);
+    current.copy_from_slice(best);
     let mut cur = score(metrics, current);
     let mut most = cur;
     let steps = (1u32 << w) - 1;
+    // No plainer: the number of the step says which generator is flipped.
     for i in 0..steps {
         let j = u32::trailing_zeros(i + 1) as usize;
         let from = j * 256;
@@ -36,7 +36,7 @@ pub fn try_all(
         cur = flip(metrics, &h[from..to], &h[places..end], current, cur);
         if cur > most {
             most = cur;
-            copy_u8(current, best);
+            best.copy_from_slice(current);
         }
     }
 }

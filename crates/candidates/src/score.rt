@@ -10,8 +10,8 @@ pub fn score(metrics: &[f32], word: &[u8]) -> f32
     ensures { result ≡ score metrics.now word.now }
 {
     let mut sum = 0.0f32;
-    for v in 0..word.len() {
-        sum = sum + metrics[v * 32 + word[v] as usize];
+    for (v, x) in word.iter().enumerate() {
+        sum = sum + metrics[v * 32 + *x as usize];
     }
     sum
 }
@@ -24,8 +24,8 @@ pub fn flip(metrics: &[f32], g: &[u8], places: &[u8], word: &mut [u8], before: f
     ensures word_after { word.new ≡ sum_of word.old g.now }
 {
     let mut score = before;
-    for e in 0..places.len() {
-        let v = places[e] as usize;
+    for place in places {
+        let v = *place as usize;
         let old = word[v];
         let new = old ^ g[v];
         word[v] = new;

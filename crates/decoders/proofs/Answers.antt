@@ -1,21 +1,29 @@
--- An answer that is a word is no refusal, and a refusal has one number.
+-- An answer that is a word is no refusal, and a refusal is one.
 -- Assumes nothing.
-use Prim.Native.Nat.{ℕ}
 use mathlib.Core.Path.{◌≡◌, ap}
-use mathlib.Core.Bool.{Bool, true, false, true≢false}
-use Rattle.graph.specs.declared.Answer.{Answer}
-use Rattle.graph.specs.declared.Answer.TheVariants.{Done, Refused}
+use mathlib.Core.Bool.{Bool, true, false, true≢false, not}
+use lib.Dec.{eqb}
+use Rattle.std.specs.Prelude.{Result, Ok, Err}
+use Rattle.calls.specs.declared.Refusal.{Refusal}
+use Rattle.calls.specs.Refusal.{number_of}
+
+abbrev pub Answer : Type 0
+Answer = Result (Unit {0}) Refusal
 
 abbrev is_done : Answer → Bool
-is_done Done = true
-is_done (Refused k) = false
+is_done (Ok u) = true
+is_done (Err r) = false
 
-abbrev number_of : Answer → ℕ
-number_of Done = 0
-number_of (Refused k) = k
+pub done_not_refused : {u : Unit {0}} (r : Refusal) → ◌≡◌ {A = Answer} (Ok u) (Err r) → ⊥
+done_not_refused r e = true≢false (ap is_done e)
 
-pub done_not_refused : (k : ℕ) → ◌≡◌ {A = Answer} Done (Refused k) → ⊥
-done_not_refused k e = true≢false (ap is_done e)
+abbrev refusal_or : Refusal → Answer → Refusal
+refusal_or given (Ok u) = given
+refusal_or given (Err r) = r
 
-pub one_number : (i k : ℕ) → ◌≡◌ {A = Answer} (Refused i) (Refused k) → i ≡ k
-one_number i k e = ap number_of e
+pub one_refusal : (q r : Refusal) → ◌≡◌ {A = Answer} (Err q) (Err r) → q ≡ r
+one_refusal q r e = ap (refusal_or q) e
+
+-- the refusals other than the tenth
+abbrev pub not_ten : Refusal → Bool
+not_ten r = not (eqb (number_of r) 10)

@@ -1,124 +1,125 @@
 -- The ends of a decoding: turned down before its rounds, and after them, with a word or without.
 -- Assumes nothing.
-use Prim.Native.Nat.{ℕ, ◌*◌}
-use mathlib.Core.Path.{◌≡◌, refl, sym, ap, ap₂, ◌∙◌}
-use mathlib.Core.Logic.{◌≢◌}
+use Prim.Native.Nat.{ℕ, ◌*◌, ◌<◌}
+use mathlib.Core.Path.{◌≡◌, refl, sym, ap, subst, ◌∙◌}
 use mathlib.Core.Bool.{Bool, true, false}
 use mathlib.Core.List.{List, [], ◌∷◌}
 use borrow.Author.Tests.{eq-eqb, leb-true, leb-false, lt-ltb, le-ltb}
 use lib.Dec.{leb, ltb}
 use lib.Ieee.{Float}
-use lib.ListN.{length, take, replicate, length-replicate}
+use lib.ListN.{length, take}
 use Rattle.lists.specs.Chain.{chain}
-use Rattle.lists.specs.Choice.{pick}
 use Rattle.lists.proofs.Chain.{chain_ext}
-use Rattle.calls.specs.Refusal.{refusal, misfit}
-use Rattle.calls.specs.Parts.{answered, worked, written, posted, counted}
-use Rattle.calls.proofs.Refusal.{refusal_hit, refusal_miss, refusal_none, first, second}
-use Rattle.calls.proofs.Parts as Parts
-use Rattle.graph.specs.declared.Answer.{Answer}
-use Rattle.graph.specs.declared.Answer.TheVariants.{Done, Refused}
+use Rattle.std.specs.Prelude.{Option, None, Result, Ok}
+use Rattle.calls.specs.declared.Refusal.{Refusal}
+use Rattle.calls.specs.declared.Refusal.TheVariants.{NoWord}
+use Rattle.calls.specs.Refusal.{first_of, answered, misfit}
+use Rattle.calls.specs.Parts.{written, posted, counted}
+use Rattle.calls.proofs.Refusals.{by_ok, second}
 use Rattle.graph.specs.declared.Code.{Code}
 use Rattle.graph.specs.Parts.{Parts}
-use Rattle.lent.specs.LentCode.{MatrixWork, matrix_left}
-use Rattle.vectors.specs.Float32.{zero32}
+use Rattle.lent.specs.Held.{Held}
 use Rattle.rounds.specs.Tanner.{tanner_in}
+use Rattle.rounds.specs.Ready.{Narrow}
 use Rattle.rounds.specs.Rounds.{posteriors_after, decisions}
 use Rattle.rounds.specs.declared.rounds.Ended.{Ended}
 use Rattle.rounds.specs.Work as Work
 use Rattle.rounds.specs.GoneOn.{GoneOn}
-use Rattle.decoders.specs.declared.Decoding.{Decoding}
 use Rattle.decoders.specs.BeliefPropagation as Bp
-use Rattle.decoders.specs.DecodeSoft.{DecodedSoft, own_lengths, decode_soft}
-use Rattle.decoders.proofs.Turned.{after_rounds-false}
+use Rattle.decoders.specs.DecodeSoft.{last_decisions, last_posteriors, own_lengths}
+use Rattle.decoders.proofs.ReadyCode.{narrow}
+use Rattle.decoders.proofs.Turned.{tests_code, tests_width, tests_work}
 
-module _ (c : Code) (p : Parts) (metrics : List Float) (known limit : ℕ) (word : List ℕ) (posteriors : List Float) (work : MatrixWork) (vectors : List Float) where
-  -- whether a part of the call's own has a wrong length
-  abbrev pub soft_rest : Bool
-  soft_rest = misfit (own_lengths c metrics word posteriors vectors)
+-- ---- after the rounds, by whether one of them satisfied all checks
 
-  abbrev early : List (Bool × ℕ)
-  early = Bp.tests c p work soft_rest limit
+pub posted_ended : {A : Type 0} (b : Bool) (given new : A) → posted (Bp.ended_by b) given new ≡ new
+posted_ended true given new = refl
+posted_ended false given new = refl
 
-  abbrev own : List (Bool × ℕ)
-  own = (ltb limit (Bp.first c p metrics known limit), 10) ∷ []
+pub written_ended : {A : Type 0} (b : Bool) (given : A) {new other : A} → (b ≡ true → new ≡ other) → written (Bp.ended_by b) given new ≡ written (Bp.ended_by b) given other
+written_ended true given e = e refl
+written_ended false given e = refl
 
-  -- how many rounds are made, and what they make
-  abbrev pub made : ℕ
-  made = Bp.rounds c p metrics known limit
+module _ (c : Code) (p : Parts) (metrics : List Float) (known limit : ℕ) where
+  abbrev own : List (Bool × Refusal)
+  own = (ltb limit (Bp.first c p metrics known limit), NoWord) ∷ []
 
-  abbrev pub decided : List ℕ
-  decided = decisions (tanner_in c p) (Bp.start c p metrics known) made
+  by_first : (b : Bool) → b ≡ leb (Bp.first c p metrics known limit) limit → Bp.ended_by b ≡ answered (first_of own) tt
+  by_first true e = rw (le-ltb limit (Bp.first c p metrics known limit) (leb-true (Bp.first c p metrics known limit) limit (sym e))) refl
+  by_first false e = rw (lt-ltb limit (Bp.first c p metrics known limit) (leb-false (Bp.first c p metrics known limit) limit (sym e))) refl
 
-  abbrev pub posts : List Float
-  posts = chain c.n (posteriors_after (tanner_in c p) (Bp.start c p metrics known) made)
+  -- the answer, where the tests before the rounds leave the call
+  pub ended_answer : (h pivots : ℕ) (rest : Bool) → first_of (Bp.tests c p h pivots rest limit) ≡ None → (b : Bool) → b ≡ leb (Bp.first c p metrics known limit) limit
+      → Bp.ended_by b ≡ answered (first_of (Bp.all_tests c p metrics known limit h pivots rest)) tt
+  ended_answer h pivots rest z b e = by_first b e ∙ ap (λ (t : Option Refusal). answered t tt) (sym (second (Bp.tests c p h pivots rest limit) own z))
 
-  abbrev outcome : ℕ → DecodedSoft
-  outcome k = record {
-    answer = record { answer = answered k Refused Done; rounds = counted k made };
-    word = written k word decided;
-    posteriors = posted k posteriors posts;
-    work = matrix_left k work;
-    vectors = worked k zero32 vectors;
-  }
+  -- from what going on leaves
+  module _ {r : Ended} {w : List Float} {hard : List ℕ} (g : GoneOn (tanner_in c p) (Bp.start c p metrics known) limit r w hard) where
+    pub gone_satisfied : r.satisfied ≡ leb (Bp.first c p metrics known limit) limit
+    unfolding Bp.first
+    gone_satisfied = g.satisfied
 
-  by : {k : ℕ} → refusal (Bp.all_tests c p metrics known limit work soft_rest) ≡ k → outcome k ≡ decode_soft c p metrics known limit word posteriors work vectors
-  unfolding decode_soft
-  by e = ap outcome (sym e)
+    pub gone_rounds : r.rounds ≡ Bp.rounds c p metrics known limit
+    unfolding Bp.rounds
+    gone_rounds = g.rounds
 
-  pub soft_refused : {k : ℕ} → k ≡ refusal early → k ≢ 0 → {left : MatrixWork} → left ≡ matrix_left k work → {v : List Float} → v ≡ worked k zero32 vectors
-      → ◌≡◌ {A = DecodedSoft} (record { answer = record { answer = Refused k; rounds = 0 }; word = word; posteriors = posteriors; work = left; vectors = v })
-      (decode_soft c p metrics known limit word posteriors work vectors)
-  soft_refused {k} e z {left} l {v} q =
-      let a = after_rounds-false c p work soft_rest limit e z in
-      let shape : ◌≡◌ {A = DecodedSoft} (record { answer = record { answer = Refused k; rounds = 0 }; word = word; posteriors = posteriors; work = left; vectors = v }) (outcome k) =
-      rw (l, q, Parts.refused k Refused Done z, Parts.unposted k 0 made a, Parts.kept k word decided z, Parts.unposted k posteriors posts a) in
-      shape ∙ by (first early own (λ y. z (e ∙ y)) ∙ sym e)
+    pub gone_decided : r.satisfied ≡ true → hard ≡ last_decisions c p metrics known limit
+    gone_decided e = g.decided e ∙ ap (decisions (tanner_in c p) (Bp.start c p metrics known)) gone_rounds
 
-  module _ (z : refusal early ≡ 0) {r : ℕ} (m : r ≡ made) {ps : List Float} (s : ps ≡ posts) {left : MatrixWork} (l : left ≡ matrix_left 0 work) {v : List Float}
-      (q : v ≡ replicate (length vectors) zero32) where
-    soft_ten : leb (Bp.first c p metrics known limit) limit ≡ false
-        → ◌≡◌ {A = DecodedSoft} (record { answer = record { answer = Refused 10; rounds = r }; word = word; posteriors = ps; work = left; vectors = v })
-        (decode_soft c p metrics known limit word posteriors work vectors)
-    unfolding answered posted written worked
-    soft_ten f =
-        rw (m, s, l, q)
-        (by (second early own tt z ∙ sym (refusal_hit {k = 10} [] refl (lt-ltb limit (Bp.first c p metrics known limit) (leb-false (Bp.first c p metrics known limit) limit f)))))
+    pub gone_posted : {posteriors : List Float} → posteriors ≡ chain c.n (Work.posts w) → posteriors ≡ last_posteriors c p metrics known limit
+    gone_posted e =
+        e ∙ chain_ext c.n (Work.posts w) (posteriors_after (tanner_in c p) (Bp.start c p metrics known) r.rounds) g.posted
+        ∙ ap (λ (k : ℕ). chain c.n (posteriors_after (tanner_in c p) (Bp.start c p metrics known) k)) gone_rounds
 
-    soft_done : leb (Bp.first c p metrics known limit) limit ≡ true → {x : List ℕ} → x ≡ decided
-        → ◌≡◌ {A = DecodedSoft} (record { answer = record { answer = Done; rounds = r }; word = x; posteriors = ps; work = left; vectors = v })
-        (decode_soft c p metrics known limit word posteriors work vectors)
-    unfolding answered posted written worked
-    soft_done f d =
-        rw (m, s, l, q, d)
-        (by (second early own tt z ∙ sym (refusal_miss 10 [] refl (le-ltb limit (Bp.first c p metrics known limit) (leb-true (Bp.first c p metrics known limit) limit f)) refusal_none)))
+-- ---- a call whose tests accepted the code `l` and gave it as `sound`
 
-    -- both, by whether a round satisfied all checks
-    soft_ended : (b : Bool) → b ≡ leb (Bp.first c p metrics known limit) limit → (x : List ℕ) → (b ≡ true → x ≡ decided)
-        → ◌≡◌ {A = DecodedSoft} (record { answer = record { answer = pick b Done (Refused 10); rounds = r }; word = pick b x word; posteriors = ps; work = left; vectors = v })
-        (decode_soft c p metrics known limit word posteriors work vectors)
-    unfolding pick
-    soft_ended true e x d = soft_done (sym e) (d refl)
-    soft_ended false e x d = soft_ten (sym e)
+module _ (l : Held) (h pivots : ℕ) (rest : Bool) (limit : ℕ) {sound : Held} (e : Ok sound ≡ answered (first_of (Bp.tests l.code l.parts h pivots rest limit)) l) where
+  came : (first_of (Bp.tests l.code l.parts h pivots rest limit) ≡ None) × (sound ≡ l)
+  came = by_ok (first_of (Bp.tests l.code l.parts h pivots rest limit)) l e
 
-  -- from what going on leaves, and what is copied out of it
-  pub soft_gone : refusal early ≡ 0 → (r : Ended) (w : List Float) (h : List ℕ) → GoneOn (tanner_in c p) (Bp.start c p metrics known) limit r w (take c.n h)
-      → {ps : List Float} → ps ≡ chain c.n (Work.posts w) → {left : MatrixWork} → left ≡ matrix_left 0 work → {v : List Float} → v ≡ replicate (length vectors) zero32
-      → {a : Decoding} → ◌≡◌ {A = Decoding} a (record { answer = pick {A = Answer} r.satisfied Done (Refused 10); rounds = r.rounds })
-      → {n : ℕ} → n ≡ c.n → {x : List ℕ} → x ≡ pick r.satisfied (take n h) word
-      → ◌≡◌ {A = DecodedSoft} (record { answer = a; word = x; posteriors = ps; work = left; vectors = v }) (decode_soft c p metrics known limit word posteriors work vectors)
-  unfolding Bp.first Bp.rounds
-  soft_gone z r w h g {ps} f {left} l {v} q {a} d {n} k {x} e =
-      let s = Bp.start c p metrics known in
-      let t = tanner_in c p in
-      let same : ps ≡ posts =
-      f ∙ chain_ext c.n (Work.posts w) (posteriors_after t s r.rounds) g.posted ∙ ap (λ (k : ℕ). chain c.n (posteriors_after t s k)) g.rounds in
-      ap₂ (λ (i : Decoding) (j : List ℕ). record { answer = i; word = j; posteriors = ps; work = left; vectors = v }) d e
-      ∙ soft_ended z g.rounds same l q r.satisfied g.satisfied (take n h) (λ b. ap (λ (i : ℕ). take i h) k ∙ g.decided b ∙ ap (decisions t s) g.rounds)
+  pub came_same : sound ≡ l
+  came_same = came.1
+
+  pub came_narrow : 0 < limit → Narrow sound.code.m sound.parts.row
+  came_narrow =
+      subst (λ (v : Held). 0 < limit → Narrow v.code.m v.parts.row) (sym came.1)
+      (narrow limit l.code.m l.parts.row (tests_width l.code l.parts h pivots rest limit came.0))
+
+  pub came_rest : rest ≡ false
+  came_rest = (tests_code l.code l.parts h pivots rest limit came.0).1
+
+  pub came_work : h ≡ 65536
+  came_work = (tests_work l.code l.parts h pivots rest limit came.0).0
+
+  -- what the rounds leave, `a` being the answer
+  module _ (metrics : List Float) (known : ℕ) (x : List ℕ) {r : Ended} {w : List Float}
+      (g : GoneOn (tanner_in sound.code sound.parts) (Bp.start sound.code sound.parts metrics known) limit r w (take sound.code.n x))
+      {a : Result (Unit {0}) Refusal} (q : a ≡ Bp.ended_by r.satisfied) where
+    gone : GoneOn (tanner_in l.code l.parts) (Bp.start l.code l.parts metrics known) limit r w (take l.code.n x)
+    gone = subst (λ (v : Held). GoneOn (tanner_in v.code v.parts) (Bp.start v.code v.parts metrics known) limit r w (take v.code.n x)) came.1 g
+
+    pub came_answer : a ≡ answered (first_of (Bp.all_tests l.code l.parts metrics known limit h pivots rest)) tt
+    came_answer = q ∙ ended_answer l.code l.parts metrics known limit h pivots rest came.0 r.satisfied (gone_satisfied l.code l.parts metrics known limit gone)
+
+    pub came_rounds : {k : ℕ} → k ≡ r.rounds → k ≡ counted a (Bp.rounds l.code l.parts metrics known limit)
+    came_rounds d =
+        let n = Bp.rounds l.code l.parts metrics known limit in
+        d ∙ gone_rounds l.code l.parts metrics known limit gone ∙ sym (ap (λ (y : Result (Unit {0}) Refusal). counted y n) q ∙ posted_ended r.satisfied 0 n)
+
+    pub came_word : (word : List ℕ) {new : List ℕ} → length word ≡ l.code.n → new ≡ written a word (take (length word) x) → new ≡ written a word (last_decisions l.code l.parts metrics known limit)
+    came_word word n d =
+        let found = last_decisions l.code l.parts metrics known limit in
+        d ∙ ap (λ (y : Result (Unit {0}) Refusal). written y word (take (length word) x)) q
+        ∙ written_ended r.satisfied word (λ z. ap (λ (k : ℕ). take k x) n ∙ gone_decided l.code l.parts metrics known limit gone z)
+        ∙ sym (ap (λ (y : Result (Unit {0}) Refusal). written y word found) q)
+
+    pub came_posteriors : (given : List Float) {new : List Float} {n : ℕ} → n ≡ l.code.n → new ≡ chain n (Work.posts w) → new ≡ posted a given (last_posteriors l.code l.parts metrics known limit)
+    came_posteriors given n d =
+        let found = last_posteriors l.code l.parts metrics known limit in
+        gone_posted l.code l.parts metrics known limit gone (d ∙ ap (λ (k : ℕ). chain k (Work.posts w)) n)
+        ∙ sym (ap (λ (y : Result (Unit {0}) Refusal). posted y given found) q ∙ posted_ended r.satisfied given found)
 
 -- ---- without the posteriors
 
-module _ (c : Code) (metrics : List Float) (word : List ℕ) (vectors : List Float) where
-  pub rest_without : misfit ((length metrics, c.n * 32) ∷ (length word, c.n) ∷ (length vectors, Work.vectors_length) ∷ [])
-      ≡ misfit (own_lengths c metrics word (replicate (c.n * 32) zero32) vectors)
-  rest_without = rw (eq-eqb (length (replicate (c.n * 32) zero32)) (c.n * 32) (length-replicate (c.n * 32) zero32))
+pub rest_without : (c : Code) (metrics word vectors : ℕ) → misfit ((metrics, c.n * 32) ∷ (word, c.n) ∷ (vectors, Work.vectors_length) ∷ []) ≡ misfit (own_lengths c metrics word (c.n * 32) vectors)
+rest_without c metrics word vectors = rw (eq-eqb (c.n * 32) (c.n * 32) refl) refl

@@ -1,11 +1,11 @@
 pub mod Answers
 pub mod Copied
 pub mod Beginning
-pub mod Sizes
 pub mod Running
 pub mod Turned
-pub mod DecodingEnds
 pub mod ReadyCode
+pub mod DecodingEnds
+pub mod Given
 pub mod ListRunning
 pub mod Theorem
 pub mod ListTheorem

@@ -5,7 +5,6 @@ use Prim.Native.Nat.{ℕ, ◌+◌, ◌-◌, ◌*◌, ◌^◌, ◌<◌, ◌≤◌
 use mathlib.Core.Path.{◌≡◌, sym, ap, subst, ◌∙◌}
 use mathlib.Core.Bool.{Bool, true, false, true≢false, not}
 use mathlib.Core.List.{List, [], ◌∷◌, ◌++◌}
-use mathlib.Core.Logic.{⊎_elim}
 use native.Mathlib.Omega.{arith}
 use borrow.Author.Tests.{ltb-false}
 use lib.Dec.{T, ltb}
@@ -16,22 +15,22 @@ use lib.Pow.{pow_mono, pow_pos}
 use Rattle.lists.specs.Entry.{nth}
 use Rattle.lists.specs.Values.{values}
 use Rattle.lists.proofs.AnyBelow.{any_below_not}
-use Rattle.lists.proofs.Cases.{same_or_not, neither}
+use Rattle.lists.proofs.Cases.{neither}
 use Rattle.lists.proofs.InOrder.{Ordered}
-use Rattle.calls.specs.Refusal.{refusal, misfit}
-use Rattle.calls.specs.Parts.{answered, written}
-use Rattle.calls.proofs.Refusal as Refusal
-use Rattle.calls.proofs.Parts as Left
+use Rattle.std.specs.Prelude.{Option, None, Ok}
+use Rattle.calls.specs.declared.Refusal.{Refusal}
+use Rattle.calls.specs.declared.Refusal.TheVariants.{Value}
+use Rattle.calls.specs.Refusal.{first_of, answered, misfit}
+use Rattle.calls.specs.Parts.{written}
+use Rattle.calls.proofs.Refusals as Refusals
 use Rattle.elimination.specs.Graph.{Graph}
-use Rattle.graph.specs.declared.Answer.TheVariants.{Done, Refused}
 use Rattle.graph.specs.declared.Code.{Code}
 use Rattle.graph.specs.Parts.{Parts}
 use Rattle.lent.specs.Misencoded.{graph_in}
-use Rattle.lent.specs.LentCode.{MatrixWork, refusals}
-use Rattle.lent.specs.Sound.{Sound}
-use Rattle.lent.proofs.Sound.{passed, not_refused}
+use Rattle.lent.specs.LentCode.{code_refusals}
+use Rattle.lent.specs.Sound.{IsSound}
+use Rattle.lent.proofs.SoundCode.{passed, not_refused}
 use Rattle.words.specs.Encoding.{information_of, encoding, info_symbols}
-use Rattle.words.specs.OnCode.{Filled, filled}
 use Rattle.words.specs.Word.{Word}
 use Rattle.words.proofs.LentWords.{positions-length, positions_at, positions_inside}
 use Rattle.words.proofs.Theorem.{words}
@@ -46,20 +45,12 @@ use Rattle.candidates.proofs.Choices.{Chosen, slots_distinct, each_chosen}
 use Rattle.candidates.proofs.LeastSure.{Ordered-least_sure}
 use Rattle.candidates.proofs.ListWords.{OneOfTwo, candidate, candidate_encoding, list_symbols, list_none, Word-list_word}
 use Rattle.decoders.specs.declared.Decoding.{Decoding}
-use Rattle.decoders.specs.ListDecode.{list_lengths, not_finite, unlistable, list_decode}
-use Rattle.decoders.proofs.Answers.{done_not_refused}
+use Rattle.decoders.specs.ListDecode.{list_lengths, not_finite, unlistable, ListDecoded, list_decode}
 
--- the two answers
-abbrev turned : ℕ → Decoding
-turned k = record { answer = Refused k; rounds = 0 }
-
-abbrev taken : Decoding
-taken = record { answer = Done; rounds = 0 }
-
-module _ (c : Code) (p : Parts) (metrics posteriors : List Float) (width : ℕ) (word : List ℕ) (work : MatrixWork) where
-  -- what the call gives
-  abbrev d : Filled Decoding
-  d = list_decode c p metrics posteriors width word work
+module _ (c : Code) (p : Parts) (metrics posteriors : List Float) (width : ℕ) (word : List ℕ) (matrix pivots : ℕ) where
+  -- what the call gives, matrix and pivots being the lengths of the work parts
+  abbrev d : ListDecoded
+  d = list_decode c p metrics posteriors width word matrix pivots
 
   abbrev g : Graph
   g = graph_in c p
@@ -82,54 +73,57 @@ module _ (c : Code) (p : Parts) (metrics posteriors : List Float) (width : ℕ) 
 
   -- whether one of the call's own parts has a wrong length, and all tests
   abbrev rest : Bool
-  rest = misfit (list_lengths c metrics posteriors word)
+  rest = misfit (list_lengths c (length metrics) (length posteriors) (length word))
 
-  abbrev number : ℕ
-  number = refusal (refusals c p work rest ++ (unlistable posteriors width, 8) ∷ [])
+  abbrev own_tests : List (Bool × Refusal)
+  own_tests = (unlistable posteriors width, Value) ∷ []
 
-  -- no number turns the call down
+  abbrev number : Option Refusal
+  number = first_of (code_refusals c p matrix pivots rest ++ own_tests)
+
+  -- no refusal turns the call down
   abbrev pub Passes : Type 0
-  Passes = number ≡ 0
+  Passes = number ≡ None
 
   pub record ListDecodes : Type 0 where
     -- it accepts, without a round
-    pub accepts : d.answer.answer ≡ Done
+    pub accepts : d.answer.answer ≡ Ok tt
     pub no_rounds : d.answer.rounds ≡ 0
     -- the word is a word of the code
-    pub is_word : Word g d.part
+    pub is_word : Word g d.word
     -- it is one of the candidates, of which there are at most 2 ^ width, and no candidate's running score is greater
     pub few : 2 ^ all ≤ 2 ^ width
     pub place : ℕ
     pub inside : place < 2 ^ all
-    pub candidate_is : d.part ≡ tries place
+    pub candidate_is : d.word ≡ tries place
     pub most : (i : ℕ) → i < 2 ^ all → lt (scored place) (scored i) ≡ false
     -- each candidate is the encoding of its information symbols, and these are the likeliest, or at the slot of an alternative the second likeliest
     pub encodings : (i : ℕ) → tries i ≡ encoding g order (info_symbols g order (tries i))
-    pub symbols : (t : ℕ) → t < length positions → OneOfTwo g order posteriors width t (nth (info_symbols g order d.part) t)
+    pub symbols : (t : ℕ) → t < length positions → OneOfTwo g order posteriors width t (nth (info_symbols g order d.word) t)
     -- the slots of the alternatives are the least sure: ascending by margin, equal ones in slot order, and all other slots come after them
     pub ordered : Ordered (length positions) (before (margin_at posteriors (nth positions))) all (least_sure (length positions) (margin_at posteriors (nth positions)) all)
     -- and every choice of the likeliest or the second at each of them is a candidate
     pub choices : (k : ℕ) → k < 2 ^ all → (i : ℕ) × (i < 2 ^ all) × Chosen g order posteriors width k (tries i)
     -- with width 0 it is the encoding of the likeliest symbols
-    pub none : width ≡ 0 → d.part ≡ encoding g order (values (length positions) (λ t. decision (vector posteriors (nth positions t))))
+    pub none : width ≡ 0 → d.word ≡ encoding g order (values (length positions) (λ t. decision (vector posteriors (nth positions t))))
 
   -- ---- what the tests leave
 
   module _ (e : Passes) where
-    pass_both : (refusal (refusals c p work rest) ≡ 0) × (refusal ((unlistable posteriors width, 8) ∷ []) ≡ 0)
-    pass_both = Refusal.both_pass (refusals c p work rest) ((unlistable posteriors width, 8) ∷ []) tt e
+    pass_all : (first_of (code_refusals c p matrix pivots rest) ≡ None) × (first_of own_tests ≡ None)
+    pass_all = Refusals.both_pass (code_refusals c p matrix pivots rest) own_tests e
 
-    code : Sound c p × (rest ≡ false)
-    code = passed c p work rest pass_both.0
+    code : IsSound c p × (rest ≡ false)
+    code = passed c p matrix pivots rest pass_all.0
 
     own : (ltb 16 width ≡ false) × (not_finite posteriors ≡ false)
-    own = neither (ltb 16 width) (not_finite posteriors) (Refusal.pass _ 7 [] pass_both.1).0
+    own = neither (ltb 16 width) (not_finite posteriors) (Refusals.pass (unlistable posteriors width) Value [] pass_all.1).0
 
     narrow : width ≤ 16
     narrow = ltb-false 16 width own.0
 
     long : length posteriors ≡ c.n * 32
-    long = (Refusal.alike (list_lengths c metrics posteriors word) false code.1).0.1.0
+    long = (Refusals.alike (list_lengths c (length metrics) (length posteriors) (length word)) false code.1).0.1.0
 
     all_finite : (i : ℕ) → i < length posteriors → T (finite (at posteriors i))
     unfolding not_finite
@@ -149,19 +143,19 @@ module _ (c : Code) (p : Parts) (metrics posteriors : List Float) (width : ℕ) 
     slots : Ordered (length positions) (before (margin_at posteriors (nth positions))) all (least_sure (length positions) (margin_at posteriors (nth positions)) all)
     slots = Ordered-least_sure posteriors (nth positions) (length positions) all (omega arith) slot_finite
 
-    found : d.part ≡ list_word g order posteriors metrics width
-    unfolding list_decode filled
-    found = ap (λ (k : ℕ). written k word (list_word g order posteriors metrics width)) e ∙ Left.put word (list_word g order posteriors metrics width)
+    found : d.word ≡ list_word g order posteriors metrics width
+    unfolding list_decode
+    found = ap (λ (t : Option Refusal). written {A = Unit {0}} (answered t tt) word (list_word g order posteriors metrics width)) e
 
-    answer_is : d.answer ≡ taken
-    unfolding list_decode filled
-    answer_is = ap (λ (k : ℕ). answered k turned taken) e ∙ Left.found turned taken
+    answer_is : d.answer ≡ record { answer = Ok tt; rounds = 0 }
+    unfolding list_decode
+    answer_is = ap (λ (t : Option Refusal). record { answer = answered t tt; rounds = 0 }) e
 
     pub list_decodes : ListDecodes
     unfolding list_word
     list_decodes =
         let b = best metrics (generator g order posteriors width) (base_word g order posteriors) (2 ^ all - 1) in
-        let w = words c p (not_refused c p work rest pass_both.0) in
+        let w = words c p (not_refused c p matrix pivots rest pass_all.0) in
         let s = slots_distinct g order posteriors width slots in
         record {
           accepts = ap (λ (a : Decoding). a.answer) answer_is;
@@ -180,11 +174,6 @@ module _ (c : Code) (p : Parts) (metrics posteriors : List Float) (width : ℕ) 
         }
 
   -- every call that accepts passes the tests
-  pub accepted : d.answer.answer ≡ Done → ListDecodes
-  unfolding list_decode filled
-  accepted z =
-      list_decodes
-      (⊎_elim
-      (λ e. e)
-      (λ n. absurd (done_not_refused number (sym z ∙ ap (λ (a : Decoding). a.answer) (Left.refused number turned taken n))))
-      (same_or_not number 0))
+  pub accepted : d.answer.answer ≡ Ok tt → ListDecodes
+  unfolding list_decode
+  accepted z = list_decodes (Refusals.by_ok number tt (sym z)).0

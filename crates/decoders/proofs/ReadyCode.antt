@@ -1,4 +1,4 @@
--- A lent code that is not refused is one that rounds may be made on.
+-- With a round or more no check of an accepted code is too wide, and rounds begin from the positions that the code lends.
 -- Assumes nothing.
 use Prim.Native.Nat.{ℕ, ◌+◌, ◌-◌, ◌<◌}
 use mathlib.Core.Path.{◌≡◌, sym, ap, subst, ◌∙◌}
@@ -13,38 +13,14 @@ use Rattle.lists.specs.Values.{values}
 use Rattle.lists.proofs.AnyBelow.{any_below_not}
 use Rattle.graph.specs.declared.Code.{Code}
 use Rattle.graph.specs.Parts.{Parts}
-use Rattle.lent.specs.Sound.{Sound}
+use Rattle.lent.specs.Sound.{IsSound}
 use Rattle.words.proofs.LentWords.{positions_all}
 use Rattle.rounds.specs.Tanner.{tanner_in}
-use Rattle.rounds.specs.Ready.{Narrow, Ready}
+use Rattle.rounds.specs.Ready.{Narrow}
 use Rattle.rounds.specs.declared.rounds.Ended.{Ended}
 use Rattle.rounds.specs.Begin.{begin}
 use Rattle.rounds.specs.GoneOn.{GoneOn}
 use Rattle.decoders.specs.BeliefPropagation.{start, wide}
-
-pub ready : (c : Code) (p : Parts) → Sound c p → Ready (tanner_in c p)
-ready c p w = record {
-  rows = record {
-    small = w.fits.m_small;
-    coef_long = w.fits.parts.coef;
-    row_long = w.fits.parts.row;
-    first = w.formed.rows.first;
-    rise = w.formed.rows.rise;
-    last = omega (arith, w.formed.rows.last, w.formed.few);
-    coefs = λ e h. (w.formed.coefs e (omega (arith, w.formed.rows.last))).1;
-  };
-  columns = record {
-    small = w.fits.n_small;
-    start_long = w.fits.parts.start;
-    col_long = w.fits.parts.col;
-    rise = w.formed.columns.rise;
-    last = omega (arith, w.formed.columns.last, w.formed.few);
-    places = λ i h. omega (arith, w.formed.places.inside i (omega (arith, w.formed.columns.last)), w.formed.columns.last);
-  };
-  ends = record { few = w.formed.few; long = w.fits.parts.var; vars = w.formed.vars };
-  by_check = w.formed.rows.last;
-  by_variable = w.formed.columns.last;
-}
 
 -- with a round or more, no check has more than 32 edges
 pub narrow : (limit m : ℕ) (row : List ℕ) → (ltb 0 limit && wide m row) ≡ false → 0 < limit → Narrow m row
@@ -54,7 +30,7 @@ narrow limit m row e h c l =
     omega (arith, ltb-false 32 (nth row (c + 1) - nth row c) (any_below_not m c (λ i. ltb 32 (nth row (i + 1) - nth row i)) q l))
 
 -- the state that rounds begin from, by the positions that the code lends
-pub gone_start : (c : Code) (p : Parts) → Sound c p → (metrics : List Float) (known limit : ℕ) (r : Ended) (w : List Float) (hard : List ℕ)
+pub gone_start : (c : Code) (p : Parts) → IsSound c p → (metrics : List Float) (known limit : ℕ) (r : Ended) (w : List Float) (hard : List ℕ)
     → GoneOn (tanner_in c p) (begin (tanner_in c p) (values (c.n - c.rank) (nth p.info)) metrics known) limit r w hard
     → GoneOn (tanner_in c p) (start c p metrics known) limit r w hard
 unfolding start

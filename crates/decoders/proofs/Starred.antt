@@ -35,8 +35,8 @@ use Rattle.vectors.specs.Normalized.{entry_sum, scaled, normalized}
 use Rattle.vectors.specs.Decision.{decision}
 use Rattle.vectors.specs.KnownZero.{known_zero}
 use Rattle.elimination.specs.Graph.{Edge, Graph, check}
-use Rattle.graph.specs.declared.Answer.{Answer}
-use Rattle.graph.specs.declared.Answer.TheVariants.{Done, Refused}
+use Rattle.std.specs.Prelude.{Ok, Err}
+use Rattle.calls.specs.declared.Refusal.TheVariants.{NoWord}
 use Rattle.graph.specs.declared.Code.{Code}
 use Rattle.graph.specs.Buildable.{Buildable}
 use Rattle.graph.specs.Built.{built}
@@ -44,11 +44,11 @@ use Rattle.graph.specs.Descending.{descending}
 use Rattle.graph.specs.New.{numbers}
 use Rattle.graph.specs.Parts.{Parts, parts}
 use Rattle.graph.proofs.BuiltWell.{built_well_is}
-use Rattle.lent.specs.LentCode.{NotRefused, MatrixWork}
+use Rattle.lent.specs.LentCode.{NotRefused}
 use Rattle.lent.specs.Misencoded.{graph_in}
 use Rattle.lent.specs.Sound.{Formed}
 use Rattle.lent.proofs.NotRefused.{built_not_refused}
-use Rattle.lent.proofs.Sound.{sound}
+use Rattle.lent.proofs.SoundCode.{sound}
 use Rattle.words.specs.Encoding.{information_of}
 use Rattle.words.specs.Word.{sum_turn, check_sum, all_satisfied}
 use Rattle.words.proofs.CheckSums.{all_satisfied-true}
@@ -62,6 +62,7 @@ use Rattle.rounds.proofs.KnownRounds.{known_posterior}
 use Rattle.rounds.specs.Work.{vectors_length}
 use Rattle.decoders.specs.BeliefPropagation.{start, wide}
 use Rattle.decoders.specs.DecodeSoft.{decode_soft}
+use Rattle.decoders.proofs.Answers.{Answer}
 use Rattle.decoders.proofs.Theorem.{Decodes, fitting_comes, decodes}
 
 -- ---- the floats, computed
@@ -159,22 +160,22 @@ zero_satisfies g = (all_satisfied-true g zero_word).1 (λ c h. unfold check_sum 
 abbrev pub flat_metrics : List Float
 flat_metrics = replicate 32 zero32
 
--- parts of the right lengths
-pub record LengthsFit (word : List ℕ) (given : List Float) (work : MatrixWork) (vectors : List Float) : Type 0 where
+-- parts of the right lengths; of the work parts, matrix, pivots and vectors, there are the lengths alone
+pub record LengthsFit (word : List ℕ) (given : List Float) (matrix pivots vectors : ℕ) : Type 0 where
   pub word_long : length word ≡ 1
   pub given_long : length given ≡ 32
-  pub h_long : length work.h ≡ 65536
-  pub pivots_long : length work.pivots ≡ 256
-  pub vectors_long : length vectors ≡ vectors_length
+  pub matrix_long : matrix ≡ 65536
+  pub pivots_long : pivots ≡ 256
+  pub vectors_long : vectors ≡ vectors_length
 
 -- one round gives word 0, zero rounds give 10, whatever the known count
 pub record Starred (c : Code) (p : Parts) : Type 0 where
-  pub one_round : (known : ℕ) (word : List ℕ) (given : List Float) (work : MatrixWork) (vectors : List Float) → LengthsFit word given work vectors
-      → (decode_soft c p flat_metrics known 1 word given work vectors).answer ≡ record { answer = Done; rounds = 1 }
-  pub one_word : (known : ℕ) (word : List ℕ) (given : List Float) (work : MatrixWork) (vectors : List Float) → LengthsFit word given work vectors
-      → (decode_soft c p flat_metrics known 1 word given work vectors).word ≡ 0 ∷ []
-  pub no_round : (known : ℕ) (word : List ℕ) (given : List Float) (work : MatrixWork) (vectors : List Float) → LengthsFit word given work vectors
-      → (decode_soft c p flat_metrics known 0 word given work vectors).answer ≡ record { answer = Refused 10; rounds = 0 }
+  pub one_round : (known : ℕ) (word : List ℕ) (given : List Float) (matrix pivots vectors : ℕ) → LengthsFit word given matrix pivots vectors
+      → (decode_soft c p flat_metrics known 1 word given matrix pivots vectors).answer ≡ record { answer = Ok tt; rounds = 1 }
+  pub one_word : (known : ℕ) (word : List ℕ) (given : List Float) (matrix pivots vectors : ℕ) → LengthsFit word given matrix pivots vectors
+      → (decode_soft c p flat_metrics known 1 word given matrix pivots vectors).word ≡ 0 ∷ []
+  pub no_round : (known : ℕ) (word : List ℕ) (given : List Float) (matrix pivots vectors : ℕ) → LengthsFit word given matrix pivots vectors
+      → (decode_soft c p flat_metrics known 0 word given matrix pivots vectors).answer ≡ record { answer = Err NoWord; rounds = 0 }
 
 -- ---- of a code of one symbol, one check and one edge that is not refused
 
@@ -225,32 +226,32 @@ module _ (rank : ℕ) (p : Parts) (ok : NotRefused (one_edge rank) p) (known : �
   unfolding satisfies
   satisfied_one = ap (all_satisfied (graph_of t)) decisions_one ∙ zero_satisfies (graph_of t)
 
-  module _ (word : List ℕ) (given : List Float) (work : MatrixWork) (vectors : List Float) (fit : LengthsFit word given work vectors) where
+  module _ (word : List ℕ) (given : List Float) (matrix pivots vectors : ℕ) (fit : LengthsFit word given matrix pivots vectors) where
     narrow : (limit : ℕ) → (ltb 0 limit && wide 1 p.row) ≡ false
     unfolding wide any_below
     narrow limit =
         let z : ltb 32 (nth p.row 1 - nth p.row 0) ≡ false = le-ltb 32 (nth p.row 1 - nth p.row 0) (omega (arith, graph.rows.last)) in
         rw (z, and-false (ltb 0 limit))
 
-    does : (limit : ℕ) → Decodes c p flat_metrics known limit word given work vectors
+    does : (limit : ℕ) → Decodes c p flat_metrics known limit word given matrix pivots vectors
     does limit =
-        decodes c p flat_metrics known limit word given work vectors
-        (fitting_comes c p flat_metrics known limit word given work vectors ok
-        (fit.h_long, (fit.pivots_long, tt)) (refl, (fit.word_long, (fit.given_long, (fit.vectors_long, tt)))) (narrow limit))
+        decodes c p flat_metrics known limit word given matrix pivots vectors
+        (fitting_comes c p flat_metrics known limit word given matrix pivots vectors ok
+        (fit.matrix_long, (fit.pivots_long, tt)) (refl, (fit.word_long, (fit.given_long, (fit.vectors_long, tt)))) (narrow limit))
 
-    done : (decode_soft c p flat_metrics known 1 word given work vectors).answer.answer ≡ Done
+    done : (decode_soft c p flat_metrics known 1 word given matrix pivots vectors).answer.answer ≡ Ok tt
     done = (does 1).accepts 1 (omega arith) (omega arith) satisfied_one
 
-    count : (decode_soft c p flat_metrics known 1 word given work vectors).answer.rounds ≡ 1
+    count : (decode_soft c p flat_metrics known 1 word given matrix pivots vectors).answer.rounds ≡ 1
     count = let w = (does 1).counts done in omega arith
 
-    found : (decode_soft c p flat_metrics known 1 word given work vectors).answer ≡ record { answer = Done; rounds = 1 }
+    found : (decode_soft c p flat_metrics known 1 word given matrix pivots vectors).answer ≡ record { answer = Ok tt; rounds = 1 }
     found = ap₂ (λ (a : Answer) (r : ℕ). record { answer = a; rounds = r }) done count
 
-    found_word : (decode_soft c p flat_metrics known 1 word given work vectors).word ≡ 0 ∷ []
+    found_word : (decode_soft c p flat_metrics known 1 word given matrix pivots vectors).word ≡ 0 ∷ []
     found_word = (does 1).decided done ∙ ap (decisions t s) count ∙ decisions_one
 
-    none : (decode_soft c p flat_metrics known 0 word given work vectors).answer ≡ record { answer = Refused 10; rounds = 0 }
+    none : (decode_soft c p flat_metrics known 0 word given matrix pivots vectors).answer ≡ record { answer = Err NoWord; rounds = 0 }
     none =
         let w = (does 0).refused (λ z. let q = (does 0).counts z in omega arith) in
         ap₂ (λ (a : Answer) (r : ℕ). record { answer = a; rounds = r }) w.0 w.1

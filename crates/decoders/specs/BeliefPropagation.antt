@@ -1,12 +1,14 @@
 -- Belief propagation on a lent code: its rounds, and by which numbers it is turned down. Document 01, part 4, "Turning a call down" and "Words of the third demand".
 -- Assumes nothing.
-use Rattle.std.specs.Prelude.{ℕ, ◌+◌, ◌-◌, Bool, ◌&&◌, List, [], ◌∷◌, ◌++◌, ltb, Float}
+use Rattle.std.specs.Prelude.{ℕ, ◌+◌, ◌-◌, Bool, cond, ◌&&◌, List, [], ◌∷◌, ◌++◌, Result, Ok, Err, ltb, Float}
 use Rattle.lists.specs.AnyBelow.{any_below}
 use Rattle.lists.specs.Entry.{nth}
+use Rattle.calls.specs.declared.Refusal.{Refusal}
+use Rattle.calls.specs.declared.Refusal.TheVariants.{WideCheck, NoWord}
 use Rattle.graph.specs.declared.Code.{Code}
 use Rattle.graph.specs.Parts.{Parts}
 use Rattle.lent.specs.Misencoded.{graph_in}
-use Rattle.lent.specs.LentCode.{MatrixWork, refusals}
+use Rattle.lent.specs.LentCode.{code_refusals}
 use Rattle.words.specs.Encoding.{information_of}
 use Rattle.rounds.specs.Tanner.{tanner_in}
 use Rattle.rounds.specs.Round.{State}
@@ -29,10 +31,14 @@ rounds c p metrics known limit = rounds_made (tanner_in c p) (start c p metrics 
 unfoldable pub wide : ℕ → List ℕ → Bool
 wide m row = any_below m (λ i. ltb 32 (nth row (i + 1) - nth row i))
 
--- the tests before the rounds; `rest` says whether a part of the call's own has a wrong length
-abbrev pub tests : Code → Parts → MatrixWork → Bool → ℕ → List (Bool × ℕ)
-tests c p work rest limit = refusals c p work rest ++ (ltb 0 limit && wide c.m p.row, 9) ∷ []
+-- the tests before the rounds; h and pivots are the work parts' lengths, and `rest` says whether a part of the call's own has a wrong length
+abbrev pub tests : Code → Parts → ℕ → ℕ → Bool → ℕ → List (Bool × Refusal)
+tests c p h pivots rest limit = code_refusals c p h pivots rest ++ (ltb 0 limit && wide c.m p.row, WideCheck) ∷ []
 
 -- 10: "Rounds that end without a word"
-abbrev pub all_tests : Code → Parts → List Float → ℕ → ℕ → MatrixWork → Bool → List (Bool × ℕ)
-all_tests c p metrics known limit work rest = tests c p work rest limit ++ (ltb limit (first c p metrics known limit), 10) ∷ []
+abbrev pub all_tests : Code → Parts → List Float → ℕ → ℕ → ℕ → ℕ → Bool → List (Bool × Refusal)
+all_tests c p metrics known limit h pivots rest = tests c p h pivots rest limit ++ (ltb limit (first c p metrics known limit), NoWord) ∷ []
+
+-- the answer after the rounds, by whether one of them satisfied all checks
+abbrev pub ended_by : Bool → Result (Unit {0}) Refusal
+ended_by satisfied = cond satisfied (Ok tt) (Err NoWord)

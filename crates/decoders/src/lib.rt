@@ -1,17 +1,18 @@
 // The decoders of a lent code. The public calls of document 01's part 4 stand here.
 #![tactic(auto)]
 
-ghost use Rattle.std.specs.Prelude.{◌≡◌};
-ghost use Rattle.graph.specs.Parts.{lent};
-ghost use Rattle.lent.specs.LentCode.{lent_matrix};
-ghost use Rattle.words.specs.OnCode.{Filled};
-ghost use Rattle.decoders.specs.DecodeSoft.{DecodedSoft, decode_soft};
-ghost use Rattle.decoders.specs.Decode.{Decoded, decode};
-ghost use Rattle.decoders.specs.ListDecode.{list_decode};
-ghost use Rattle.decoders.specs.declared.Decoding.{Decoding};
+ghost use Rattle.std.specs.Prelude.{◌≡◌, length};
+ghost use Rattle.calls.specs.Parts.{worked, written, posted, counted};
+ghost use Rattle.lent.specs.LentCode.{graph_of};
+ghost use Rattle.vectors.specs.Float32.{zero32};
+ghost use Rattle.candidates.specs.ListWord.{list_word};
+ghost use Rattle.decoders.specs.BeliefPropagation.{rounds};
+ghost use Rattle.decoders.specs.DecodeSoft.{soft_answer, last_decisions, last_posteriors};
+ghost use Rattle.decoders.specs.Decode.{decode_answer};
+ghost use Rattle.decoders.specs.ListDecode.{list_answer};
 
-use calls::clear::{clear_f32, clear_u8};
-use graph::{Answer, Code};
+use calls::Refusal;
+use lent::Lent;
 use rounds::rows::VECTORS;
 
 mod belief_propagation;
@@ -20,24 +21,16 @@ mod out;
 mod refusals;
 
 // What a decoding answers: whether there is a word, and how many rounds were made.
-#[derive(Clone, Copy)]
+#[derive(Clone, Copy, Debug, PartialEq, Eq)]
 pub struct Decoding {
-    pub answer: Answer,
+    pub answer: Result<(), Refusal>,
     pub rounds: u32,
 }
 
-// Belief propagation: the decisions of the first round up to the limit that satisfies all checks, and the last round's posteriors.
+// Belief propagation: the decisions of the first round up to the limit that satisfies all checks, and the last round's posteriors. `soft_given` (proofs/Given.antt) makes
+// of the clauses the one term of which the theorem speaks (proofs/Theorem.antt).
 pub fn decode_soft(
-    code: Code,
-    var: &[u16],
-    coef: &[u8],
-    row: &[u16],
-    start: &[u16],
-    col: &[u16],
-    order: &[u16],
-    parity: &[u16],
-    info: &[u16],
-    a: &[u8],
+    code: &Lent,
     metrics: &[f32],
     known: u32,
     limit: u32,
@@ -47,48 +40,34 @@ pub fn decode_soft(
     pivots: &mut [u16],
     vectors: &mut [f32],
 ) -> Decoding
-    ensures { ◌≡◌ {A = DecodedSoft} (record {
-      answer = result;
-      word = word.new;
-      posteriors = posteriors.new;
-      work = lent_matrix h.new pivots.new;
-      vectors = vectors.new;
-    })
-        (decode_soft code (lent var.now coef.now row.now start.now col.now order.now parity.now info.now a.now)
-        metrics.now known limit word.old posteriors.old (lent_matrix h.old pivots.old) vectors.old) }
+    ensures answer { result.answer ≡ soft_answer code.now.code code.now.parts metrics.now known limit (length word.old) (length posteriors.old) (length h.old) (length pivots.old) (length vectors.old) }
+    ensures rounds { result.rounds ≡ counted result.answer (rounds code.now.code code.now.parts metrics.now known limit) }
+    ensures word_after { word.new ≡ written result.answer word.old (last_decisions code.now.code code.now.parts metrics.now known limit) }
+    ensures posteriors_after { posteriors.new ≡ posted result.answer posteriors.old (last_posteriors code.now.code code.now.parts metrics.now known limit) }
+    ensures h_after { h.new ≡ worked result.answer 0 h.old }
+    ensures pivots_after { pivots.new ≡ worked result.answer 0 pivots.old }
+    ensures vectors_after { vectors.new ≡ worked result.answer zero32 vectors.old }
 {
-    let rest = refusals::misfit(code.n, metrics.len())
-        | ((word.len() != code.n)
-            | (refusals::misfit(code.n, posteriors.len()) | (vectors.len() != VECTORS)));
-    let refused = refusals::refused(
-        code, var, coef, row, start, col, order, parity, info, a, limit, h, pivots, vectors, rest,
-    );
-    if refused != 0 {
-        return Decoding {
-            answer: Answer::Refused(refused),
+    let rest = refusals::misfit(code.numbers.n, metrics.len())
+        | ((word.len() != code.numbers.n)
+            | (refusals::misfit(code.numbers.n, posteriors.len()) | (vectors.len() != VECTORS)));
+    match refusals::accepted(code, limit, h, pivots, vectors, rest) {
+        Err(refusal) => Decoding {
+            answer: Err(refusal),
             rounds: 0,
-        };
+        },
+        Ok(sound) => {
+            let ended = belief_propagation::run(&sound, metrics, known, limit, h, vectors);
+            out::copy_posteriors(code.numbers.n, vectors, posteriors);
+            vectors.fill(0.0);
+            out::finish(ended, h, word)
+        }
     }
-    let ended = belief_propagation::run(
-        code, var, coef, row, start, col, info, metrics, known, limit, h, vectors,
-    );
-    out::copy_posteriors(code.n, vectors, posteriors);
-    clear_f32(vectors);
-    out::finish(ended, h, word)
 }
 
-// The same without the posteriors.
+// The same without the posteriors: `decode_given` (proofs/Given.antt). No plainer as one: the other has a part for them, and so its own lengths.
 pub fn decode(
-    code: Code,
-    var: &[u16],
-    coef: &[u8],
-    row: &[u16],
-    start: &[u16],
-    col: &[u16],
-    order: &[u16],
-    parity: &[u16],
-    info: &[u16],
-    a: &[u8],
+    code: &Lent,
     metrics: &[f32],
     known: u32,
     limit: u32,
@@ -97,41 +76,59 @@ pub fn decode(
     pivots: &mut [u16],
     vectors: &mut [f32],
 ) -> Decoding
-    ensures { ◌≡◌ {A = Decoded} (record { answer = result; word = word.new; work = lent_matrix h.new pivots.new; vectors = vectors.new })
-        (decode code (lent var.now coef.now row.now start.now col.now order.now parity.now info.now a.now)
-        metrics.now known limit word.old (lent_matrix h.old pivots.old) vectors.old) }
+    ensures answer { result.answer ≡ decode_answer code.now.code code.now.parts metrics.now known limit (length word.old) (length h.old) (length pivots.old) (length vectors.old) }
+    ensures rounds { result.rounds ≡ counted result.answer (rounds code.now.code code.now.parts metrics.now known limit) }
+    ensures word_after { word.new ≡ written result.answer word.old (last_decisions code.now.code code.now.parts metrics.now known limit) }
+    ensures h_after { h.new ≡ worked result.answer 0 h.old }
+    ensures pivots_after { pivots.new ≡ worked result.answer 0 pivots.old }
+    ensures vectors_after { vectors.new ≡ worked result.answer zero32 vectors.old }
 {
-    let rest = refusals::misfit(code.n, metrics.len())
-        | ((word.len() != code.n) | (vectors.len() != VECTORS));
-    let refused = refusals::refused(
-        code, var, coef, row, start, col, order, parity, info, a, limit, h, pivots, vectors, rest,
-    );
-    if refused != 0 {
-        return Decoding {
-            answer: Answer::Refused(refused),
+    let rest = refusals::misfit(code.numbers.n, metrics.len())
+        | ((word.len() != code.numbers.n) | (vectors.len() != VECTORS));
+    match refusals::accepted(code, limit, h, pivots, vectors, rest) {
+        Err(refusal) => Decoding {
+            answer: Err(refusal),
             rounds: 0,
-        };
+        },
+        Ok(sound) => {
+            let ended = belief_propagation::run(&sound, metrics, known, limit, h, vectors);
+            vectors.fill(0.0);
+            out::finish(ended, h, word)
+        }
     }
-    let ended = belief_propagation::run(
-        code, var, coef, row, start, col, info, metrics, known, limit, h, vectors,
-    );
-    clear_f32(vectors);
-    out::finish(ended, h, word)
+}
+
+// The list's word, where no refusal turns the call down.
+fn listed(
+    code: &Lent,
+    metrics: &[f32],
+    posteriors: &[f32],
+    width: usize,
+    word: &mut [u8],
+    h: &mut [u8],
+    pivots: &mut [u16],
+) -> Result<(), Refusal>
+    ensures answer { result ≡ list_answer code.now.code code.now.parts metrics.now posteriors.now width (length word.old) (length h.old) (length pivots.old) }
+    ensures word_after { word.new ≡ written result word.old (list_word (graph_of code.now) code.now.parts.order posteriors.now metrics.now width) }
+    ensures h_after { h.new ≡ worked result 0 h.old }
+    ensures pivots_after { pivots.new ≡ worked result 0 pivots.old }
+{
+    let rest = refusals::misfit(code.numbers.n, metrics.len())
+        | (refusals::misfit(code.numbers.n, posteriors.len()) | (word.len() != code.numbers.n));
+    let sound = code.accepted(h, pivots, rest)?;
+    if (width > 16) | refusals::not_finite(posteriors) {
+        return Err(Refusal::Value);
+    }
+    list_decoding::run(&sound, metrics, posteriors, width, word, h);
+    h.fill(0);
+    Ok(())
 }
 
 // List decoding: the information symbols at their likeliest values by the posteriors, the `width` least sure of them also at the second likeliest, every combination
-// encoded and scored by the metrics; the best of these words.
+// encoded and scored by the metrics; the best of these words. `list_given` (proofs/Given.antt) makes of the clauses the one term of which the theorem speaks
+// (proofs/ListTheorem.antt).
 pub fn list_decode(
-    code: Code,
-    var: &[u16],
-    coef: &[u8],
-    row: &[u16],
-    start: &[u16],
-    col: &[u16],
-    order: &[u16],
-    parity: &[u16],
-    info: &[u16],
-    a: &[u8],
+    code: &Lent,
     metrics: &[f32],
     posteriors: &[f32],
     width: usize,
@@ -139,33 +136,14 @@ pub fn list_decode(
     h: &mut [u8],
     pivots: &mut [u16],
 ) -> Decoding
-    ensures { ◌≡◌ {A = Filled Decoding} (record { answer = result; part = word.new; work = lent_matrix h.new pivots.new })
-        (list_decode code (lent var.now coef.now row.now start.now col.now order.now parity.now info.now a.now)
-        metrics.now posteriors.now width word.old (lent_matrix h.old pivots.old)) }
+    ensures answer { result.answer ≡ list_answer code.now.code code.now.parts metrics.now posteriors.now width (length word.old) (length h.old) (length pivots.old) }
+    ensures rounds { result.rounds ≡ 0 }
+    ensures word_after { word.new ≡ written result.answer word.old (list_word (graph_of code.now) code.now.parts.order posteriors.now metrics.now width) }
+    ensures h_after { h.new ≡ worked result.answer 0 h.old }
+    ensures pivots_after { pivots.new ≡ worked result.answer 0 pivots.old }
 {
-    let rest = refusals::misfit(code.n, metrics.len())
-        | (refusals::misfit(code.n, posteriors.len()) | (word.len() != code.n));
-    let refused = lent::refused(
-        code, var, coef, row, start, col, order, parity, info, a, h, pivots, rest,
-    );
-    if refused != 0 {
-        return Decoding {
-            answer: Answer::Refused(refused),
-            rounds: 0,
-        };
-    }
-    if (width > 16) | refusals::not_finite(posteriors) {
-        return Decoding {
-            answer: Answer::Refused(8),
-            rounds: 0,
-        };
-    }
-    list_decoding::run(
-        code.n, code.rank, parity, info, a, metrics, posteriors, width, word, h,
-    );
-    clear_u8(h);
     Decoding {
-        answer: Answer::Done,
+        answer: listed(code, metrics, posteriors, width, word, h, pivots),
         rounds: 0,
     }
 }

@@ -1,13 +1,14 @@
 -- The check matrix in a part, edge by edge and check by check.
 -- Assumes nothing.
-use mathlib.Core.Path.{◌≡◌, refl, sym, ap, ◌∙◌}
+use mathlib.Core.Path.{◌≡◌, sym, ap, ap₂, ◌∙◌}
 use mathlib.Core.Logic.{◌≢◌, ⊎_elim}
 use mathlib.Core.List.{List, [], ◌∷◌, ◌++◌, foldl, foldl-append}
 use Prim.Native.Nat.{ℕ, ◌+◌, ◌-◌, ◌*◌, ◌<◌, ◌≤◌}
+use native.Mathlib.Nat.{zero-add}
 use native.Mathlib.Omega.{arith}
 use lib.Dec.{ltb}
 use lib.Bits.{bit_xor}
-use lib.ListN.{length, set, replicate}
+use lib.ListN.{length, set, replicate, take, drop}
 use lib.Seq.{get_or-set_same, get_or-set_other}
 use Rattle.lists.specs.Choice.{pick}
 use Rattle.lists.specs.Changed.{changed}
@@ -16,7 +17,8 @@ use Rattle.lists.specs.Values.{values}
 use Rattle.lists.proofs.Cases.{same_or_not, less_or_not}
 use Rattle.lists.proofs.Choice.{pick_same, pick_other, pick_less, pick_not_less}
 use Rattle.lists.proofs.Changed.{changed_at, changed_other}
-use Rattle.lists.proofs.Values.{values_at, values_none, values_more, values-replicate}
+use Rattle.lists.proofs.ListSearch.{middle-length, middle_at}
+use Rattle.lists.proofs.Values.{values_at, values_none, values_more, values_ext, values-replicate}
 use Rattle.elimination.specs.Graph.{Edge}
 use Rattle.elimination.specs.Matrix.{Matrix, entry_turn, entry, matrix_of}
 use Rattle.elimination.specs.Held.{edges_in, held}
@@ -39,53 +41,42 @@ module _ (var coef : List ℕ) (from : ℕ) where
       let z : from + (e - from) ≡ e = omega arith in
       ap (λ (k : ℕ). values k edge) k ∙ values_more edge (e - from) ∙ ap (λ (k : ℕ). edges_in var coef from e ++ (nth var k, nth coef k) ∷ []) z
 
-  -- row i with the edges up to place e
-  abbrev pub summed : ℕ → Matrix → ℕ → ℕ → ℕ
-  summed i g e j = foldl (entry_turn j) (g i j) (edges_in var coef from e)
+  -- what stands at place j of a row, with the edges up to place e added to x
+  abbrev pub summed : ℕ → ℕ → ℕ → ℕ
+  summed x e j = foldl (entry_turn j) x (edges_in var coef from e)
 
-  summed_more : (i : ℕ) (g : Matrix) (e j : ℕ) → from ≤ e → summed i g (e + 1) j ≡ entry_turn j (summed i g e j) (nth var e, nth coef e)
-  summed_more i g e j h = ap (foldl (entry_turn j) (g i j)) (edges_more e h) ∙ foldl-append (entry_turn j) (g i j) (edges_in var coef from e) ((nth var e, nth coef e) ∷ [])
+  summed_more : (x e j : ℕ) → from ≤ e → summed x (e + 1) j ≡ entry_turn j (summed x e j) (nth var e, nth coef e)
+  summed_more x e j h = ap (foldl (entry_turn j) x) (edges_more e h) ∙ foldl-append (entry_turn j) x (edges_in var coef from e) ((nth var e, nth coef e) ∷ [])
 
-  module _ {m n : ℕ} (i : ℕ) (g : Matrix) where
-    pub check_start : {l : List ℕ} → Holds m n g l → Holds m n (changed g i (summed i g from)) l
-    check_start w =
-        holds_ext w (λ a j _ _. ⊎_elim
-        (λ e. sym (ap (λ (f : ℕ → ℕ). f j) (changed_at g i (summed i g from) a e) ∙ ap (foldl (entry_turn j) (g i j)) edges_none ∙ ap (λ (a : ℕ). g a j) (sym e)))
-        (λ d. sym (ap (λ (f : ℕ → ℕ). f j) (changed_other g i (summed i g from) a d)))
-        (same_or_not a i))
+  pub check_start : (x j : ℕ) → x ≡ summed x from j
+  check_start x j = sym (ap (foldl (entry_turn j) x) edges_none)
 
-    pub check_on : {l : List ℕ} (e : ℕ) → n ≤ 256 → from ≤ e → nth var e < 256 → i * 256 + nth var e < length l → Holds m n (changed g i (summed i g e)) l
-        → Holds m n (changed g i (summed i g (e + 1))) (set l (i * 256 + nth var e) (bit_xor (nth l (i * 256 + nth var e)) (nth coef e)))
-    check_on {l} e hn h v b w = record { same = λ a j ha hj. ⊎_elim (own a j ha hj) (other a j ha hj) (same_or_not a i) }
-      where
-        place : ℕ
-        place = i * 256 + nth var e
+  pub check_on : (l : List ℕ) (x e j : ℕ) → from ≤ e → nth var e < length l → nth l j ≡ summed x e j
+      → nth (set l (nth var e) (bit_xor (nth l (nth var e)) (nth coef e))) j ≡ summed x (e + 1) j
+  check_on l x e j h b w =
+      ⊎_elim
+      (λ q. ap (nth (set l v y)) (sym q) ∙ get_or-set_same l v y 0 b ∙ ap (λ (k : ℕ). bit_xor (nth l k) (nth coef e)) q ∙ ap (λ (z : ℕ). bit_xor z (nth coef e)) w
+      ∙ sym (pick_same v j (bit_xor (summed x e j) (nth coef e)) (summed x e j) q))
+      (λ d. get_or-set_other l v j y 0 (omega (arith, d)) ∙ w ∙ sym (pick_other v j (bit_xor (summed x e j) (nth coef e)) (summed x e j) d))
+      (same_or_not v j)
+      ∙ sym (summed_more x e j h)
+    where
+      v : ℕ
+      v = nth var e
 
-        x : ℕ
-        x = bit_xor (nth l place) (nth coef e)
+      y : ℕ
+      y = bit_xor (nth l v) (nth coef e)
 
-        other : (a j : ℕ) → a < m → j < n → a ≢ i → nth (set l place x) (a * 256 + j) ≡ changed g i (summed i g (e + 1)) a j
-        other a j ha hj d =
-            get_or-set_other l place (a * 256 + j) x 0 (omega (arith, d)) ∙ w.same a j ha hj
-            ∙ ap (λ (f : ℕ → ℕ). f j) (changed_other g i (summed i g e) a d ∙ sym (changed_other g i (summed i g (e + 1)) a d))
-
-        -- entry j of row i
-        old : (j : ℕ) → i < m → j < n → nth l (i * 256 + j) ≡ summed i g e j
-        old j ha hj = w.same i j ha hj ∙ ap (λ (f : ℕ → ℕ). f j) (changed_at g i (summed i g e) i refl)
-
-        new : (j : ℕ) → i < m → j < n → nth (set l place x) (i * 256 + j) ≡ entry_turn j (summed i g e j) (nth var e, nth coef e)
-        new j ha hj =
-            ⊎_elim
-            (λ q. ap (λ (k : ℕ). nth (set l place x) (i * 256 + k)) (sym q) ∙ get_or-set_same l place x 0 b
-            ∙ ap (λ (k : ℕ). bit_xor (nth l (i * 256 + k)) (nth coef e)) q ∙ ap (λ (y : ℕ). bit_xor y (nth coef e)) (old j ha hj)
-            ∙ sym (pick_same (nth var e) j (bit_xor (summed i g e j) (nth coef e)) (summed i g e j) q))
-            (λ q. get_or-set_other l place (i * 256 + j) x 0 (omega (arith, q)) ∙ old j ha hj
-            ∙ sym (pick_other (nth var e) j (bit_xor (summed i g e j) (nth coef e)) (summed i g e j) q))
-            (same_or_not (nth var e) j)
-
-        own : (a j : ℕ) → a < m → j < n → a ≡ i → nth (set l place x) (a * 256 + j) ≡ changed g i (summed i g (e + 1)) a j
-        own a j ha hj q =
-            rw q (new j (rw q at ha) hj ∙ sym (summed_more i g e j h) ∙ sym (ap (λ (f : ℕ → ℕ). f j) (changed_at g i (summed i g (e + 1)) i refl)))
+-- the edges of a middle of the parts
+pub edges_middle : (var coef : List ℕ) (from to : ℕ) → from ≤ to → to ≤ length var → let part = λ (l : List ℕ). take (to - from) (drop from l) in
+    edges_in (part var) (part coef) 0 (length (part var)) ≡ edges_in var coef from to
+edges_middle var coef from to h b =
+    let part : List ℕ → List ℕ = λ l. take (to - from) (drop from l) in
+    let n : length (part var) - 0 ≡ to - from = omega (arith, middle-length var from (to - from) (omega arith)) in
+    let at : (l : List ℕ) (j : ℕ) → j < to - from → nth (part l) (0 + j) ≡ nth l (from + j) = λ l j k. ap (nth (part l)) (zero-add j) ∙ middle_at l from (to - from) j k in
+    rw n
+    (values_ext (to - from) (λ j. (nth (part var) (0 + j), nth (part coef) (0 + j))) (λ j. (nth var (from + j), nth coef (from + j))) (0, 0)
+    (λ j k. ap₂ (λ (a b : ℕ). (a, b)) (at var j k) (at coef j k)))
 
 -- ---- the checks one after another
 
@@ -98,19 +89,19 @@ module _ (m n : ℕ) (var coef row : List ℕ) where
   abbrev pub up_to : ℕ → Matrix
   up_to i a j = pick (ltb a i) (matrix_of (held n m var coef row) a j) 0
 
-  module _ {l : List ℕ} where
-    pub matrix_start : (k : ℕ) → k ≡ 65536 → l ≡ replicate k 0 → m ≤ 256 → n ≤ 256 → Holds m n (up_to 0) l
+  module _ {w : ℕ} {l : List ℕ} where
+    pub matrix_start : (k : ℕ) → k ≡ 65536 → l ≡ replicate k 0 → m ≤ 256 → w ≤ 256 → Holds m w (up_to 0) l
     matrix_start k q e hm hn = record {
       same = λ a j ha hj.
           ap (λ (x : List ℕ). nth x (a * 256 + j)) (e ∙ sym (values-replicate k 0)) ∙ values_at (λ _. 0) k (a * 256 + j) 0 (omega arith)
           ∙ sym (pick_not_less a 0 (matrix_of (held n m var coef row) a j) 0 (omega arith));
     }
 
-    pub matrix_on : (i : ℕ) → Holds m n (changed (up_to i) i (summed var coef (nth row i) i (up_to i) (nth row (i + 1)))) l → Holds m n (up_to (i + 1)) l
-    matrix_on i w = holds_ext w (λ a j ha hj. ⊎_elim (own a j ha) (other a j) (same_or_not a i))
+    pub matrix_on : (i : ℕ) → Holds m w (changed (up_to i) i (λ j. summed var coef (nth row i) (up_to i i j) (nth row (i + 1)) j)) l → Holds m w (up_to (i + 1)) l
+    matrix_on i p = holds_ext p (λ a j ha hj. ⊎_elim (own a j ha) (other a j) (same_or_not a i))
       where
         f : ℕ → ℕ
-        f = summed var coef (nth row i) i (up_to i) (nth row (i + 1))
+        f j = summed var coef (nth row i) (up_to i i j) (nth row (i + 1)) j
 
         own : (a j : ℕ) → a < m → a ≡ i → changed (up_to i) i f a j ≡ up_to (i + 1) a j
         own a j ha e =
@@ -127,5 +118,6 @@ module _ (m n : ℕ) (var coef row : List ℕ) where
             (λ h. pick_not_less a i (matrix_of (held n m var coef row) a j) 0 h ∙ sym (pick_not_less a (i + 1) (matrix_of (held n m var coef row) a j) 0 (omega (arith, d))))
             (less_or_not a i)
 
-    pub matrix_end : (i : ℕ) → m ≤ i → Holds m n (up_to i) l → Holds m n (matrix_of (held n m var coef row)) l
-    matrix_end i h w = holds_ext w (λ a j ha hj. pick_less a i (matrix_of (held n m var coef row) a j) 0 (omega arith))
+    -- all of them, and so the first columns
+    pub matrix_end : (i k : ℕ) → m ≤ i → k ≤ w → Holds m w (up_to i) l → Holds m k (matrix_of (held n m var coef row)) l
+    matrix_end i k h b p = record { same = λ a j ha hj. p.same a j ha (omega arith) ∙ pick_less a i (matrix_of (held n m var coef row) a j) 0 (omega arith) }

@@ -2,10 +2,9 @@
 -- Assumes nothing.
 use mathlib.Core.Path.{◌≡◌, sym, ap, ◌∙◌}
 use mathlib.Core.List.{List}
-use Prim.Native.Nat.{ℕ, ◌+◌, ◌*◌, ◌<◌, ◌≤◌}
-use native.Mathlib.Nat.{mul-le-mul_right, suc-mul}
+use Prim.Native.Nat.{ℕ, ◌+◌, ◌*◌}
+use native.Mathlib.Nat.{suc-mul}
 use native.Mathlib.Numerals.{add-one}
-use native.Mathlib.Omega.{arith}
 use Rattle.lists.specs.Entry.{nth}
 use Rattle.lists.specs.Values.{values}
 
@@ -16,10 +15,6 @@ factor h info i t = nth h (i * 256 + nth info t)
 abbrev pub factors : ℕ → List ℕ → List ℕ → ℕ → List ℕ
 factors k h info i = values k (factor h info i)
 
--- row i ends within the table
-pub room : (i r k : ℕ) → i < r → r * k ≤ 16384 → i * k + k ≤ 16384
-room i r k h l = omega (arith, mul-le-mul_right k h, suc-mul i k)
-
--- and the next one begins there
+-- the row after row i begins where that ends
 pub next : (i k : ℕ) → i * k + k ≡ (i + 1) * k
 next i k = sym (ap (λ (x : ℕ). x * k) (add-one i) ∙ suc-mul i k)

@@ -14,17 +14,14 @@ ghost use Rattle.elimination.specs.Standing.{Holds};
 
 use crate::elimination::eliminate;
 use crate::positions::others;
-use calls::clear::clear_u8;
 
-// Adds the edges from one place to another to row i.
-fn add_check(h: &mut [u8], i: usize, var: &[u16], coef: &[u8], from: usize, to: usize)
-    requires h_len { (length h.old ≡ 65536) × (i < 256) × (length var.now ≡ 512) × (length coef.now ≡ 512) × (from ≤ to) × (to ≤ 512) }
-    requires by_index { (e : ℕ) → e < to → nth var.now e < 256 }
-    ensures { (m n : ℕ) (g : Matrix) → n ≤ 256 → Holds m n g h.old → Holds m n (changed g i (λ j. foldl (entry_turn j) (g i j) (edges_in var.now coef.now from to))) h.new }
+// Adds a check's edges to its row.
+fn add_check(row: &mut [u8], var: &[u16], coef: &[u8])
+    requires { (length coef.now ≡ length var.now) × ((e : ℕ) → e < length var.now → nth var.now e < length row.old) }
+    ensures { (j : ℕ) → j < length row.old → nth row.new j ≡ foldl (entry_turn j) (nth row.old j) (edges_in var.now coef.now 0 (length var.now)) }
 {
-    for e in from..to {
-        let k = i * 256 + var[e] as usize;
-        h[k] = h[k] ^ coef[e];
+    for (e, v) in var.iter().enumerate() {
+        row[*v as usize] ^= coef[e];
     }
 }
 
@@ -34,39 +31,44 @@ pub fn matrix(m: usize, var: &[u16], coef: &[u8], row: &[u16], h: &mut [u8])
     requires h_len { length h.old ≡ 65536 }
     ensures { (n : ℕ) → n ≤ 256 → Holds m n (matrix_of (held n m var.now coef.now row.now)) h.new }
 {
-    clear_u8(h);
+    h.fill(0);
+    // No plainer: row[i] and row[i + 1] are read, and row i of h is written.
     for i in 0..m {
         let from = row[i] as usize;
         let to = row[i + 1] as usize;
-        add_check(h, i, var, coef, from, to);
+        add_check(
+            &mut h[i * 256..i * 256 + 256],
+            &var[from..to],
+            &coef[from..to],
+        );
     }
 }
 
-// Row i of the table: the matrix's entries at the k information positions, from place `at` on.
-fn table_row(i: usize, k: usize, at: usize, h: &[u8], info: &[u16], a: &mut [u8])
-    requires i_bound { (i < 256) × (length h.now ≡ 65536) × (length info.now ≡ 256) × (k ≤ 256) × (at + k ≤ 16384) × (length a.old ≡ 16384) }
-    requires by_index { (t : ℕ) → t < k → nth info.now t < 256 }
-    ensures { a.new ≡ laid_from at (values k (λ t. nth h.now (i * 256 + nth info.now t))) a.old }
+// A row of the table: a row of the matrix at the information positions. No plainer as one with `gather` of words: it fills a whole row, that one the front of a part.
+fn table_row(row: &[u8], info: &[u16], a: &mut [u8])
+    requires { (length a.old ≡ length info.now) × ((t : ℕ) → t < length info.now → nth info.now t < length row.now) }
+    ensures { a.new ≡ values (length info.now) (λ t. nth row.now (nth info.now t)) }
 {
-    for t in 0..k {
-        a[at + t] = h[i * 256 + info[t] as usize];
+    for (t, j) in info.iter().enumerate() {
+        a[t] = row[*j as usize];
     }
 }
 
-// The table: a row for each of the r pivots.
-fn table(r: usize, k: usize, h: &[u8], info: &[u16], a: &mut [u8])
-    requires r_bound { (r ≤ 256) × (k ≤ 256) × (length h.now ≡ 65536) × (length info.now ≡ 256) × (length a.old ≡ 16384) × (r * k ≤ 16384) }
-    requires by_index { (t : ℕ) → t < k → nth info.now t < 256 }
-    ensures { a.new ≡ laid (chain r (λ i. values k (λ t. nth h.now (i * 256 + nth info.now t)))) a.old }
+// The table: a row for each of the r pivots. No plainer without r: h holds all rows, and the first r of them are read.
+fn table(r: usize, h: &[u8], info: &[u16], a: &mut [u8])
+    requires r_bound { (r ≤ 256) × (length h.now ≡ 65536) × (length info.now ≤ 256) × (length a.old ≡ 16384) × (r * length info.now ≤ 16384) }
+    requires by_index { (t : ℕ) → t < length info.now → nth info.now t < 256 }
+    ensures { a.new ≡ laid (chain r (λ i. values (length info.now) (λ t. nth h.now (i * 256 + nth info.now t)))) a.old }
 {
-    let mut at = 0;
+    let k = info.len();
+    // No plainer: row i of one is read and of the other written, and `chunks_exact_mut(k)` would refuse the k = 0 of a code without information positions.
     for i in 0..r {
-        table_row(i, k, at, h, info, a);
-        at += k;
+        table_row(&h[i * 256..i * 256 + 256], info, &mut a[i * k..i * k + k]);
     }
 }
 
-// The parity positions, the information positions and the table, each to the front of its part. Answers the rank. What `h` holds does not matter.
+// The parity positions, the information positions and the table, each to the front of its part. Answers the rank. What `h` holds does not matter. The C interface has the parts one
+// by one, and three of them are written.
 pub fn build_encoder(
     n: usize,
     m: usize,
@@ -88,7 +90,7 @@ pub fn build_encoder(
 {
     matrix(m, var, coef, row, h);
     let r = eliminate(n, m, order, h, parity);
-    let k = others(n, r, parity, info);
-    table(r, k, h, info, a);
+    let k = others(n, &parity[..r], info);
+    table(r, h, &info[..k], a);
     r
 }

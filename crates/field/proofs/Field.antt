@@ -1,9 +1,9 @@
 -- The 32 elements are a field: its laws side by side, with the exclusive or as the sum.
 -- Assumes nothing.
 use Rattle.std.proofs.Common.{◌≡◌, ℕ, ◌<◌, ◌≢◌, ◌⊎◌}
-use lib.Bits.{bit_xor, xor_comm, xor_zero_r, xor_self}
+use lib.Bits.{bit_xor, xor_comm, xor_zero_r, xor_self, xor_assoc}
 use Rattle.field.specs.Field.{product, inverse}
-use Rattle.field.proofs.Sum.{xor_assoc, xor32}
+use Rattle.field.proofs.Sum.{xor32}
 use Rattle.field.proofs.Product.{product-lt, product_comm, product_assoc, product_xor, one_product, inverse-lt, inverse-product, no_zero_divisors}
 
 -- a field whose elements are the numbers below q, in which each element is its own negative

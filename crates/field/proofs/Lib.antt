@@ -5,5 +5,4 @@ pub mod FieldSum
 pub mod Combined
 pub mod Field
 pub mod Logarithms
-pub mod Halves
 pub mod Generator

@@ -6,7 +6,6 @@ use Rattle.lists.specs.Values.{values}
 use Rattle.lists.proofs.Computed.{all_below_at, equal1}
 use Rattle.lists.proofs.Values.{values_at}
 use Rattle.field.specs.Field.{product, power, inverse}
-use Rattle.field.specs.Tabled.{Tabled}
 use Rattle.field.proofs.Product.{product-lt, product_comm, product_assoc, one_product, power-lt, power-add, inverse_unique}
 
 -- x, the polynomial
@@ -105,7 +104,12 @@ inverse_read a ha ka =
     exp_at-power ((31 - log_at a) % 31) (omega (arith, mod-lt (31 - log_at a) (lit< {m = 0} {n = 31} tt))) ∙ ap (λ (i : ℕ). power x ((31 - i) % 31)) (log_at-log a ha)
     ∙ inverse-log a ha ka
 
--- the tables, as a function that is lent them asks
-pub tabled : Tabled exps logs
-unfolding exps logs
-tabled = record { exp_long = refl; log_long = refl; low = log_at-lt; sums = product_read }
+-- ---- all products
+
+unfoldable pub product_rows : List (List ℕ)
+unfolding values product
+product_rows = values 32 (λ a. values 32 (product a))
+
+pub product_row : (a : ℕ) (d : List ℕ) → a < 32 → get_or product_rows a d ≡ values 32 (product a)
+unfolding product_rows
+product_row a d h = values_at (λ b. values 32 (product b)) 32 a d h

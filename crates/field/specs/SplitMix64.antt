@@ -4,8 +4,6 @@
 use Rattle.std.specs.Prelude.{ℕ, ◌+◌, ◌*◌, ◌/◌, ◌%◌, ◌^◌, List, bit_xor}
 use Rattle.lists.specs.Iter.{iter}
 use Rattle.lists.specs.Values.{values}
-use Rattle.field.specs.declared.splitmix64.SplitMix64.{SplitMix64}
-use Rattle.field.specs.declared.splitmix64.Draw.{Draw}
 
 -- the next state
 unfoldable pub next : ℕ → ℕ
@@ -33,7 +31,3 @@ after k s = iter k (λ _ t. next t) s
 -- the first n draws
 unfoldable pub drawn : ℕ → ℕ → List ℕ
 drawn n s = values n (λ k. draw (after k s))
-
--- what `mix` answers
-unfoldable pub mixed : SplitMix64 → Draw
-mixed s = record { value = draw s.state; next = record { state = next s.state } }

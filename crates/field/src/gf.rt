@@ -1,22 +1,12 @@
 // The field of 32 elements: GF(2^5) with the primitive polynomial x^5 + x^2 + 1. The sum is `^`.
 ghost use Rattle.std.specs.Prelude.{◌≡◌};
+ghost use Rattle.lists.specs.Values.{values};
 ghost use Rattle.field.specs.Field.{product, inverse};
-ghost use Rattle.field.specs.Tabled.{Tabled};
 
-use crate::tables::{EXP, LOG};
+use crate::tables::{EXP, LOG, PRODUCTS};
 
 // Of a factor above 31 the five lowest bits count.
 pub fn mul(a: u8, b: u8) -> u8
-    ensures { result ≡ product a b }
-{
-    let exp = EXP;
-    let log = LOG;
-    mul_by(&exp, &log, a, b)
-}
-
-// The same by tables that are lent: a loop over many products has them laid on the stack once.
-pub fn mul_by(exp: &[u8; 62], log: &[u8; 32], a: u8, b: u8) -> u8
-    requires { Tabled exp.now log.now }
     ensures { result ≡ product a b }
 {
     let x = (a % 32) as usize;
@@ -24,12 +14,10 @@ pub fn mul_by(exp: &[u8; 62], log: &[u8; 32], a: u8, b: u8) -> u8
     if (x == 0) | (y == 0) {
         return 0;
     }
-    let i = log[x] as usize;
-    let j = log[y] as usize;
-    exp[i + j]
+    EXP[LOG[x] as usize + LOG[y] as usize]
 }
 
-// 0 has no inverse, and 0 is answered for it.
+// No plainer as an `Option`: 0 has no inverse, and 0 is answered for it, as the definition says; whoever calls from outside is refused before.
 pub fn inv(a: u8) -> u8
     ensures { result ≡ inverse a }
 {
@@ -39,4 +27,11 @@ pub fn inv(a: u8) -> u8
     }
     let i = LOG[x] as usize;
     EXP[(31 - i) % 31]
+}
+
+// The products with 0, 1, .., 31, by the five lowest bits of the factor: a loop over them has no branch.
+pub fn products_of(a: u8) -> &'static [u8; 32]
+    ensures { result.now ≡ values 32 (product a) }
+{
+    &PRODUCTS[(a % 32) as usize]
 }

@@ -8,3 +8,5 @@ pub mod BuiltWell
 pub mod Sizes
 pub mod Ends
 pub mod Proper
+pub mod FrontWritten
+pub mod EndsLaid

@@ -6,7 +6,7 @@ use mathlib.Core.Bool.{false}
 use borrow.Author.Tests.{ltb-false}
 use lib.Dec.{ltb}
 use Rattle.lists.proofs.Cases.{neither}
-use Rattle.calls.proofs.Refusal.{Alike}
+use Rattle.calls.proofs.Refusals.{Alike}
 use Rattle.graph.specs.Sizes.{too_large, code_lengths}
 use Rattle.graph.specs.Parts.{Parts}
 use Rattle.graph.specs.Buildable.{PartsFit}

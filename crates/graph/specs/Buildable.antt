@@ -1,4 +1,4 @@
--- What the refusals leave of the input of a build. Ours; only `requires` of private functions cite it.
+-- What the refusals leave of the input of a build. Ours; no public call's contract cites it.
 -- Assumes nothing.
 use Rattle.std.specs.Prelude.{ℕ, ◌<◌, ◌≤◌, ◌≡◌, List, length}
 use Rattle.lists.specs.Entry.{nth}

@@ -9,21 +9,23 @@ ghost use Rattle.graph.specs.New.{numbers, lent_work};
 ghost use Rattle.graph.specs.Buildable.{Buildable, PartsFit, WorkFits};
 
 use crate::{Code, edges};
-use calls::clear;
 use elimination::encoder;
+use field::splitmix64::SplitMix64;
+use growth::peg::grow;
+use growth::table::Table;
 
 // Every entry of the work parts 0.
 pub fn clear_work(chk: &mut [u8], load: &mut [u16], own: &mut [u8], deg: &mut [u16])
     ensures { (chk.new ≡ replicate (length chk.old) 0) × (load.new ≡ replicate (length load.old) 0)
         × (own.new ≡ replicate (length own.old) 0) × (deg.new ≡ replicate (length deg.old) 0) }
 {
-    clear::clear_u8(chk);
-    clear::clear_u16(load);
-    clear::clear_u8(own);
-    clear::clear_u16(deg);
+    chk.fill(0);
+    load.fill(0);
+    own.fill(0);
+    deg.fill(0);
 }
 
-// Every entry of a code's parts 0, so that those which stay unused are.
+// Every entry of a code's parts 0, so that those which stay unused are. The C interface, here and below: the parts are lent flat, each by itself.
 fn clear_code(
     var: &mut [u16],
     coef: &mut [u8],
@@ -41,15 +43,15 @@ fn clear_code(
         × (parity.new ≡ replicate (length parity.old) 0) × (info.new ≡ replicate (length info.old) 0)
         × (a.new ≡ replicate (length a.old) 0) }
 {
-    clear::clear_u16(var);
-    clear::clear_u8(coef);
-    clear::clear_u16(row);
-    clear::clear_u16(start);
-    clear::clear_u16(col);
-    clear::clear_u16(order);
-    clear::clear_u16(parity);
-    clear::clear_u16(info);
-    clear::clear_u8(a);
+    var.fill(0);
+    coef.fill(0);
+    row.fill(0);
+    start.fill(0);
+    col.fill(0);
+    order.fill(0);
+    parity.fill(0);
+    info.fill(0);
+    a.fill(0);
 }
 
 // The graph: grown, its edges laid out check by check with a coefficient each, and listed by variable. Answers the number of edges.
@@ -78,12 +80,21 @@ fn build_graph(
         × (start.new ≡ laid (column_starts (built n m degrees.now seed)) start.old)
         × (col.new ≡ laid (columns (built n m degrees.now seed)) col.old) }
 {
-    clear::clear_u16(load);
-    clear::clear_u16(deg);
-    let s = growth::peg::grow(chk, load, own, deg, degrees, m, n, seed);
-    let count = edges::lay_checks(chk, load, m, var, row);
-    edges::draw_coefs(count, s, coef);
-    edges::lay_columns(var, count, n, start, col);
+    load.fill(0);
+    deg.fill(0);
+    let mut checks = Table {
+        cells: chk,
+        counts: load,
+    };
+    let mut vars = Table {
+        cells: own,
+        counts: deg,
+    };
+    let mut generator = SplitMix64 { state: seed };
+    grow(&mut checks, &mut vars, degrees, m, &mut generator);
+    let count = edges::lay_checks(&checks, m, var, row);
+    edges::draw_coefs(generator.state, &mut coef[..count]);
+    edges::lay_columns(&var[..count], n, start, col);
     count
 }
 
@@ -118,7 +129,7 @@ pub fn build(
     let count = build_graph(
         n, m, seed, degrees, var, coef, row, start, col, chk, load, own, deg,
     );
-    edges::lay_order(n, order);
+    edges::lay_order(&mut order[..n]);
     let rank = encoder::build_encoder(n, m, var, coef, row, order, chk, parity, info, a);
     Code {
         n,

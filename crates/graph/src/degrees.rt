@@ -9,12 +9,7 @@ pub fn spread(e: usize, degrees: &mut [usize])
     ensures { degrees.new ≡ values (length degrees.old) (even_degree (length degrees.old) e) }
 {
     let n = degrees.len();
-    for v in 0..n {
-        let least = e / n;
-        if v < e % n {
-            degrees[v] = least + 1;
-        } else {
-            degrees[v] = least;
-        }
+    for (v, degree) in degrees.iter_mut().enumerate() {
+        *degree = if v < e % n { e / n + 1 } else { e / n };
     }
 }

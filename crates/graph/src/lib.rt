@@ -2,9 +2,16 @@
 #![tactic(auto)]
 
 ghost use Rattle.std.specs.Prelude.{◌≡◌};
-ghost use Rattle.graph.specs.EvenDegrees.{EvenDegrees, even_degrees};
-ghost use Rattle.graph.specs.Parts.{lent};
-ghost use Rattle.graph.specs.New.{New, new_code, lent_work};
+ghost use Rattle.lists.specs.Values.{values};
+ghost use Rattle.calls.specs.Refusal.{first_of, answered};
+ghost use Rattle.calls.specs.Parts.{worked, written};
+ghost use Rattle.graph.specs.EvenDegrees.{even_degree, even_refusals};
+ghost use Rattle.graph.specs.Parts.{Parts, parts, lent};
+ghost use Rattle.graph.specs.Descending.{descending};
+ghost use Rattle.graph.specs.Built.{built};
+ghost use Rattle.graph.specs.New.{numbers, new_refusals, lent_work};
+
+use calls::Refusal;
 
 mod build;
 mod degrees;
@@ -12,7 +19,7 @@ mod edges;
 pub mod refusals;
 
 // The numbers of a code; its parts are lent beside them.
-#[derive(Clone, Copy)]
+#[derive(Clone, Copy, Debug, PartialEq, Eq)]
 pub struct Code {
     pub n: usize,
     pub m: usize,
@@ -20,34 +27,23 @@ pub struct Code {
     pub rank: usize,
 }
 
-#[derive(Clone, Copy)]
-pub enum NewCode {
-    Built(Code),
-    Refused(u8),
-}
-
-// Of a call that finds what it leaves in lent parts.
-#[derive(Clone, Copy)]
-pub enum Answer {
-    Done,
-    Refused(u8),
-}
-
 // Spreads e edges over n variables as evenly as can be.
-pub fn even_degrees(n: usize, e: usize, degrees: &mut [usize]) -> Answer
-    ensures { ◌≡◌ {A = EvenDegrees} (record { answer = result; degrees = degrees.new }) (even_degrees n e degrees.old) }
+pub fn even_degrees(n: usize, e: usize, degrees: &mut [usize]) -> Result<(), Refusal>
+    ensures answer { result ≡ answered (first_of (even_refusals n degrees.old)) tt }
+    ensures degrees_after { degrees.new ≡ written result degrees.old (values n (even_degree n e)) }
 {
     if n > 256 {
-        return Answer::Refused(2);
+        return Err(Refusal::Size);
     }
     if degrees.len() != n {
-        return Answer::Refused(3);
+        return Err(Refusal::Length);
     }
     degrees::spread(e, degrees);
-    Answer::Done
+    Ok(())
 }
 
 // Builds a code of n symbols and m checks whose variables have the given degrees, by progressive edge growth from the seed. chk, load, own and deg are work parts.
+// The C interface has the parts one by one. `new_given` (lent/proofs/NotRefused.antt) says of the clauses that no call refuses the code where the parts are left as they are.
 pub fn new(
     n: usize,
     m: usize,
@@ -66,15 +62,19 @@ pub fn new(
     load: &mut [u16],
     own: &mut [u8],
     deg: &mut [u16],
-) -> NewCode
-    ensures { ◌≡◌ {A = New} (record {
-      answer = result;
-      code = lent var.new coef.new row.new start.new col.new order.new parity.new info.new a.new;
-      work = lent_work chk.new load.new own.new deg.new;
-    })
-        (new_code n m seed degrees.now
+) -> Result<Code, Refusal>
+    ensures answer { result ≡ answered
+        (first_of (new_refusals n m degrees.now
         (lent var.old coef.old row.old start.old col.old order.old parity.old info.old a.old)
-        (lent_work chk.old load.old own.old deg.old)) }
+        (lent_work chk.old load.old own.old deg.old)))
+        (numbers (built n m degrees.now seed) (descending n)) }
+    ensures code_after { ◌≡◌ {A = Parts} (lent var.new coef.new row.new start.new col.new order.new parity.new info.new a.new)
+        (written result (lent var.old coef.old row.old start.old col.old order.old parity.old info.old a.old)
+        (parts (built n m degrees.now seed) (descending n))) }
+    ensures chk_after { chk.new ≡ worked result 0 chk.old }
+    ensures load_after { load.new ≡ worked result 0 load.old }
+    ensures own_after { own.new ≡ worked result 0 own.old }
+    ensures deg_after { deg.new ≡ worked result 0 deg.old }
 {
     let work = refusals::work_misfit(chk.len(), load.len(), own.len(), deg.len(), false);
     let code = refusals::code_misfit(
@@ -89,19 +89,15 @@ pub fn new(
         a.len(),
         work,
     );
-    let early = refusals::early(n, m, (degrees.len() != n) | code);
-    if early != 0 {
-        return NewCode::Refused(early);
-    }
-    let late = refusals::bad_degrees(m, degrees);
-    if late != 0 {
+    refusals::early(n, m, (degrees.len() != n) | code)?;
+    if let Err(refusal) = refusals::bad_degrees(m, degrees) {
         build::clear_work(chk, load, own, deg);
-        return NewCode::Refused(late);
+        return Err(refusal);
     }
     let built = build::build(
         n, m, seed, degrees, var, coef, row, start, col, order, parity, info, a, chk, load, own,
         deg,
     );
     build::clear_work(chk, load, own, deg);
-    NewCode::Built(built)
+    Ok(built)
 }

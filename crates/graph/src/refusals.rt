@@ -1,8 +1,11 @@
 // The tests by which calls are turned down, and their numbers in document 01's order.
-ghost use Rattle.std.specs.Prelude.{◌≡◌, ◌∷◌, [], length};
-ghost use Rattle.calls.specs.Refusal.{refusal, misfits};
+ghost use Rattle.std.specs.Prelude.{◌≡◌, ◌∷◌, [], length, ltb};
+ghost use Rattle.std.specs.List.{list_any};
+ghost use Rattle.calls.specs.Refusal.{first_of, answered, misfits};
 ghost use Rattle.graph.specs.Sizes.{too_large};
 ghost use Rattle.graph.specs.New.{too_many, too_high};
+
+use calls::Refusal;
 
 fn too_large(n: usize, m: usize) -> bool
     ensures { result ≡ too_large n m }
@@ -10,7 +13,7 @@ fn too_large(n: usize, m: usize) -> bool
     (n > 256) | (m > 256)
 }
 
-// Whether a part of a code has a wrong length; `rest` says so of further parts.
+// Whether a part of a code has a wrong length; `rest` says so of further parts. The C interface: the parts are lent flat, so their lengths are nine numbers.
 pub fn code_misfit(
     var: usize,
     coef: usize,
@@ -42,16 +45,16 @@ pub fn work_misfit(chk: usize, load: usize, own: usize, deg: usize, rest: bool) 
 }
 
 // 2 and 3, which touch nothing.
-pub fn early(n: usize, m: usize, misfit: bool) -> u8
-    ensures { result ≡ refusal ((too_large n m, 2) ∷ (misfit, 3) ∷ []) }
+pub fn early(n: usize, m: usize, misfit: bool) -> Result<(), Refusal>
+    ensures { result ≡ answered (first_of ((too_large n m, Refusal.Size) ∷ (misfit, Refusal.Length) ∷ [])) tt }
 {
     if too_large(n, m) {
-        return 2;
+        return Err(Refusal::Size);
     }
     if misfit {
-        return 3;
+        return Err(Refusal::Length);
     }
-    0
+    Ok(())
 }
 
 // The sum stops at the first degree that takes it above 512, so it cannot overflow.
@@ -59,35 +62,30 @@ fn too_many(degrees: &[usize]) -> bool
     ensures { result ≡ too_many (length degrees.now) degrees.now }
 {
     let mut sum = 0usize;
-    for v in 0..degrees.len() {
-        if degrees[v] > 512 - sum {
+    for degree in degrees {
+        if *degree > 512 - sum {
             return true;
         }
-        sum += degrees[v];
+        sum += *degree;
     }
     false
 }
 
 fn too_high(m: usize, degrees: &[usize]) -> bool
-    ensures { result ≡ too_high (length degrees.now) m degrees.now }
+    ensures { result ≡ list_any (λ d. ltb m d) degrees.now }
 {
-    for v in 0..degrees.len() {
-        if degrees[v] > m {
-            return true;
-        }
-    }
-    false
+    degrees.iter().any(|degree| *degree > m)
 }
 
 // 4 and 5.
-pub fn bad_degrees(m: usize, degrees: &[usize]) -> u8
-    ensures { result ≡ refusal ((too_many (length degrees.now) degrees.now, 4) ∷ (too_high (length degrees.now) m degrees.now, 5) ∷ []) }
+pub fn bad_degrees(m: usize, degrees: &[usize]) -> Result<(), Refusal>
+    ensures { result ≡ answered (first_of ((too_many (length degrees.now) degrees.now, Refusal.DegreeSum) ∷ (too_high (length degrees.now) m degrees.now, Refusal.DegreeTooHigh) ∷ [])) tt }
 {
     if too_many(degrees) {
-        return 4;
+        return Err(Refusal::DegreeSum);
     }
     if too_high(m, degrees) {
-        return 5;
+        return Err(Refusal::DegreeTooHigh);
     }
-    0
+    Ok(())
 }

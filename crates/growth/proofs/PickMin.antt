@@ -1,7 +1,7 @@
 -- Laws of the choice among candidates: one of least load there always is, so that the choice is a candidate.
 -- Assumes nothing.
 use Prim.Native.Nat.{ℕ, ◌%◌, min, ◌<◌, ◌≤◌}
-use mathlib.Core.Path.{◌≡◌, refl, ap, sym, ◌∙◌, subst}
+use mathlib.Core.Path.{◌≡◌, refl, sym, ◌∙◌}
 use mathlib.Core.Bool.{Bool, true}
 use mathlib.Core.List.{List, [], ◌∷◌, foldl}
 use mathlib.Core.Logic.{⊎_elim, ◌⊎◌, inl, inr}
@@ -9,8 +9,7 @@ use native.Mathlib.Nat.{not-suc-le-zero, mod-lt, min-eq_left, min-eq_right}
 use native.Mathlib.Omega.{arith}
 use borrow.Author.Tests.{eq-eqb}
 use lib.Dec.{eqb}
-use lib.ListN.{length, take, length-append}
-use lib.Seq.{get_or-take, length-take-le}
+use lib.ListN.{length, length-append}
 use Rattle.lists.specs.Keep.{keep}
 use Rattle.lists.specs.Entry.{nth}
 use Rattle.lists.specs.Times.{times}
@@ -56,21 +55,15 @@ pick_in load cand draw h =
     fewer : times (pick_min load cand draw) (lightest load cand) ≤ times (pick_min load cand draw) cand
     fewer = unfold lightest in times-keep (pick_min load cand draw) _ cand
 
--- ---- where those of least load stand in the first w places of best
+-- ---- of a list of those of least load
 
-module _ (load : ℕ → ℕ) (cand best : List ℕ) (w draw : ℕ) (e : take w best ≡ lightest load cand) (b : w ≤ length best) (some : 0 < length cand) where
-  count : w ≡ length (lightest load cand)
-  count = sym (length-take-le w best b) ∙ ap length e
-
+module _ (load : ℕ → ℕ) (cand best : List ℕ) (w draw : ℕ) (e : best ≡ lightest load cand) (n : w ≡ length best) (some : 0 < length cand) where
   pub best_some : 0 < w
-  best_some = subst (λ (k : ℕ). 0 < k) (sym count) (lightest_some load cand some)
+  best_some = rw (n, e) (lightest_some load cand some)
 
-  pub best_in : draw % w < w
-  best_in = mod-lt draw best_some
+  pub best_in : draw % w < length best
+  best_in = rw (← n) (mod-lt draw best_some)
 
   pub best_is : nth best (draw % w) ≡ pick_min load cand draw
   unfolding pick_min
-  best_is =
-      sym (get_or-take w best (draw % w) 0 best_in)
-      ∙ ap (λ (l : List ℕ). nth l (draw % w)) e
-      ∙ ap (λ (k : ℕ). nth (lightest load cand) (draw % k)) count
+  best_is = rw (n, e)

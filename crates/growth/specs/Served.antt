@@ -1,4 +1,4 @@
--- What holds of a growing graph on the way, so that its lists stay within their rows. Ours; only `requires` of private functions cite it.
+-- What holds of a growing graph on the way, so that its lists stay within their rows. Ours; no public call's contract cites it.
 -- Assumes nothing.
 use Rattle.std.specs.Prelude.{ℕ, ◌+◌, ◌<◌, ◌≤◌, ◌≡◌, Bool, true, false, [], eqb, ltb, length}
 use Rattle.lists.specs.Choice.{pick}

@@ -20,7 +20,7 @@ use Rattle.lists.proofs.Cases.{neither, true_or_false}
 use Rattle.lists.proofs.Front.{differs_not, differs-laid}
 use Rattle.lists.proofs.Laid.{laid-take}
 use Rattle.lists.proofs.Values.{values-length, values_at}
-use Rattle.calls.proofs.Refusal.{one_hit, one_miss, one_join, one_none, one_fail}
+use Rattle.calls.proofs.Refusals.{one_hit, one_miss, one_join, one_none, one_fail}
 use Rattle.graph.specs.declared.Code.{Code}
 use Rattle.elimination.specs.Matrix.{matrix_of}
 use Rattle.elimination.specs.Elimination.{infos, table}

@@ -3,7 +3,7 @@
 use mathlib.Core.Path.{◌≡◌}
 use mathlib.Core.Bool.{Bool, false}
 use Rattle.calls.specs.Refusal.{misfits}
-use Rattle.calls.proofs.Refusal.{alike}
+use Rattle.calls.proofs.Refusals.{alike}
 use Rattle.graph.specs.declared.Code.{Code}
 use Rattle.graph.specs.Sizes.{too_large, code_lengths}
 use Rattle.graph.specs.Parts.{Parts}

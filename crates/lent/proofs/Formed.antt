@@ -20,10 +20,10 @@ use Rattle.lists.proofs.EachOnce.{not_outside, not_repeated, each_once-true, eac
 use Rattle.lists.proofs.Rising.{rises, rises_apart, between}
 use Rattle.lists.proofs.Times.{Inside, times_has, times_once, times_alike, times_lengths}
 use Rattle.lists.proofs.Values.{values-length, values_at, values_ext, values_own}
-use Rattle.calls.proofs.Refusal.{one_fail}
+use Rattle.calls.proofs.Refusals.{one_fail}
 use Rattle.graph.specs.declared.Code.{Code}
 use Rattle.graph.specs.Parts.{Parts, variables, places}
-use Rattle.lent.specs.Malformed.{bad_starts, twice, bad_coefs, foreign, disagree, malformed}
+use Rattle.lent.specs.Malformed.{bad_starts, twice, bad_coefs, foreign, disagree, unused_hold, malformed}
 use Rattle.lent.specs.Misencoded.{graph_in}
 use Rattle.lent.specs.Sound.{Fits, Starts, Formed}
 use Rattle.lent.proofs.HeldVariables.{held-variables}
@@ -82,6 +82,11 @@ formed c p e =
       own = foreign_pass c.n p.var p.start p.col lists.1.1.0;
       order = each_once-true c.n (nth p.order) (not-false (each_once c.n (nth p.order)) t.1.1.1.1.1.1.0);
     }
+
+-- and every unused entry is 0
+pub unused_pass : (c : Code) (p : Parts) → malformed c p ≡ false → unused_hold c p ≡ false
+unfolding malformed
+unused_pass c p e = (one_fail _ e).1.1.1.1.1.1.1.0
 
 -- each of k lists ends within the count
 pub starts_end : {k count : ℕ} {starts : ℕ → ℕ} → Starts k count starts → (i : ℕ) → i < k → starts (i + 1) ≤ count

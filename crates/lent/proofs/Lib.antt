@@ -2,8 +2,10 @@ pub mod HeldVariables
 pub mod Fits
 pub mod Formed
 pub mod Encoded
-pub mod Sound
+pub mod SoundCode
 pub mod SoundProper
 pub mod LentEnds
 pub mod SoundPasses
 pub mod NotRefused
+pub mod Fronts
+pub mod TableRow

@@ -1,43 +1,40 @@
 -- A code in parts that hold a proper graph and an order of its columns is not refused; so the code that `new` answers never is.
 -- Assumes nothing.
 use Prim.Native.Nat.{ℕ, ◌+◌, ◌<◌, ◌≤◌}
-use mathlib.Core.Path.{◌≡◌, refl, ap, sym, ◌∙◌, subst, subst₂}
+use mathlib.Core.Path.{◌≡◌, refl, ap, sym, ◌∙◌, subst}
 use mathlib.Core.Bool.{false}
 use mathlib.Core.List.{List}
-use mathlib.Core.Logic.{⊎_elim}
 use native.Mathlib.Omega.{arith}
 use lib.ListN.{length, get_or}
 use Rattle.lists.specs.Chain.{start_of}
 use Rattle.lists.specs.EachOnce.{EachOnce}
 use Rattle.lists.specs.Entry.{nth}
-use Rattle.lists.proofs.Cases.{same_or_not}
 use Rattle.lists.proofs.Chain.{start_none, start_more, start_of-le, chain_at}
 use Rattle.lists.proofs.EachOnce.{each_once_ext}
 use Rattle.lists.proofs.Values.{values_at}
-use Rattle.calls.specs.Parts.{answered, padded}
-use Rattle.calls.specs.Refusal.{refusal}
-use Rattle.calls.proofs.Parts.{refused}
-use Rattle.calls.proofs.Refusal.{one_miss, one_none, accepted}
+use Rattle.std.specs.Prelude.{Result, Ok}
+use Rattle.calls.specs.declared.Refusal.{Refusal}
+use Rattle.calls.specs.Parts.{padded, written}
+use Rattle.calls.specs.Refusal.{first_of, answered}
+use Rattle.calls.proofs.Refusals.{one_miss, one_none, by_ok, both_pass}
 use Rattle.graph.specs.declared.Code.{Code}
-use Rattle.graph.specs.declared.NewCode.{NewCode}
-use Rattle.graph.specs.declared.NewCode.TheVariants.{Built, Refused}
 use Rattle.elimination.specs.Graph.{Graph, check_count, check, edges}
 use Rattle.elimination.specs.Elimination.{State, reduced, infos, table}
 use Rattle.graph.specs.Parts.{Parts, variables, places, columns, parts}
 use Rattle.elimination.specs.Held.{held}
 use Rattle.graph.specs.Descending.{descending}
 use Rattle.graph.specs.Built.{built}
-use Rattle.graph.specs.New.{Work, refusals, numbers, New, new_code}
+use Rattle.graph.specs.New.{Work, new_refusals, numbers}
 use Rattle.lent.specs.Malformed.{unused_hold}
 use Rattle.lent.specs.LentCode.{NotRefused}
 use Rattle.graph.specs.Buildable.{Buildable}
-use Rattle.lent.specs.Sound.{Starts, Fits, Formed, Encoded, Sound}
+use Rattle.lent.specs.Sound.{Starts, Fits, Formed, Encoded, IsSound}
 use Rattle.graph.proofs.RowStarts.{rows_last, edge_inside, variable_at}
 use Rattle.graph.proofs.Places.{places_own, places_once}
 use Rattle.graph.proofs.Proper.{Proper, var_part, coef_part, row_part, start_part, col_part, vars_long, vars_below, places_last, var_padded, coef_padded, row_padded, start_padded, col_padded, row_in, start_in, var_in, coef_in, order_padded, order_each, parts_reduced, infos_long, table_long, parity_padded, info_padded, table_padded}
 use Rattle.lent.proofs.SoundPasses.{sound_passes}
 use Rattle.graph.proofs.BuiltWell.{built_long, built_once, built_proper}
-use Rattle.graph.proofs.Ends.{early_tests, late_tests, new_built, new_buildable}
+use Rattle.graph.proofs.Ends.{early_tests, late_tests, new_buildable}
 
 -- lists one after another: their starts
 starts_are : {A : Type 0} (f : ℕ → List A) (k count : ℕ) (starts : ℕ → ℕ) → ((i : ℕ) → i ≤ k → starts i ≡ start_of f i) → start_of f k ≡ count → Starts k count starts
@@ -139,7 +136,7 @@ module _ (g : Graph) (ok : Proper g) where
         (one_miss _ refl (info_padded g ok order long each).unused
         (one_miss _ refl (table_padded g ok order long each).unused one_none)))))))))
 
-    pub parts_sound : Sound (numbers g order) (parts g order)
+    pub parts_sound : IsSound (numbers g order) (parts g order)
     parts_sound = record { fits = fit; formed = formed; encoded = encoded }
 
 pub parts_not_refused : (g : Graph) (order : List ℕ) → Proper g → length order ≡ g.n → EachOnce g.n (nth order) → NotRefused (numbers g order) (parts g order)
@@ -151,28 +148,21 @@ pub built_not_refused : (n m : ℕ) (degrees : List ℕ) (seed : ℕ) → Builda
     → NotRefused (numbers (built n m degrees seed) (descending n)) (parts (built n m degrees seed) (descending n))
 built_not_refused n m degrees seed ok = parts_not_refused (built n m degrees seed) (descending n) (built_proper n m degrees seed ok) (built_long n m degrees seed) (built_once n m degrees seed)
 
--- the number of an answer, 0 for a code
-abbrev number_of : NewCode → ℕ
-number_of (Built c) = 0
-number_of (Refused k) = k
-
--- its code, or the given one where it has none
-abbrev code_of : NewCode → Code → Code
-code_of (Built c) given = c
-code_of (Refused k) given = given
-
-built_number : (k : ℕ) (x c : Code) → answered k Refused (Built x) ≡ Built c → k ≡ 0
-built_number k x c h = ⊎_elim (λ e. e) (λ z. ap number_of (sym (refused k Refused (Built x) z) ∙ h)) (same_or_not k 0)
-
 -- a code that `new` answers is never refused
-pub new_not_refused : (n m seed : ℕ) (degrees : List ℕ) (code : Parts) (work : Work) (c : Code) → (new_code n m seed degrees code work).answer ≡ Built c
-    → NotRefused c (new_code n m seed degrees code work).code
-unfolding new_code
+pub new_not_refused : (n m seed : ℕ) (degrees : List ℕ) (code : Parts) (work : Work) (c : Code)
+    → Ok c ≡ answered (first_of (new_refusals n m degrees code work)) (numbers (built n m degrees seed) (descending n))
+    → NotRefused c (parts (built n m degrees seed) (descending n))
 new_not_refused n m seed degrees code work c h =
-    let z = built_number (refusal (refusals n m degrees code work)) (numbers (built n m degrees seed) (descending n)) c h in
-    let q = new_built n m seed degrees code work z in
-    let b = accepted (early_tests n m degrees code work) (late_tests n m degrees) tt z in
-    subst₂ (λ (x : Code) (p : Parts). NotRefused x p)
-    (ap (λ (o : New). code_of o.answer c) q ∙ ap (λ (a : NewCode). code_of a c) h)
-    (ap (λ (o : New). o.code) q)
-    (built_not_refused n m degrees seed (new_buildable n m degrees code work b.0 b.1))
+    let r = by_ok (first_of (new_refusals n m degrees code work)) (numbers (built n m degrees seed) (descending n)) h in
+    let b = both_pass (early_tests n m degrees code work) (late_tests n m degrees) r.0 in
+    subst (λ (x : Code). NotRefused x (parts (built n m degrees seed) (descending n))) (sym r.1) (built_not_refused n m degrees seed (new_buildable n m degrees code work b.0 b.1))
+
+-- so, by the clauses `answer` and `code_after` of `new`: where it answers a code, that code is not refused in the parts that it leaves
+pub new_given : (n m seed : ℕ) (degrees : List ℕ) (given left : Parts) (work : Work) (result : Result Code Refusal)
+    → result ≡ answered (first_of (new_refusals n m degrees given work)) (numbers (built n m degrees seed) (descending n))
+    → left ≡ written result given (parts (built n m degrees seed) (descending n))
+    → (c : Code) → result ≡ Ok c → NotRefused c left
+new_given n m seed degrees given left work result answer code_after c e =
+    let made = parts (built n m degrees seed) (descending n) in
+    let same : left ≡ made = code_after ∙ ap (λ (r : Result Code Refusal). written r given made) e in
+    subst (λ (p : Parts). NotRefused c p) (sym same) (new_not_refused n m seed degrees given work c (sym e ∙ answer))

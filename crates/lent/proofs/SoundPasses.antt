@@ -3,7 +3,7 @@
 use Prim.Native.Nat.{ℕ, ◌+◌, ◌-◌, ◌<◌, ◌≤◌}
 use mathlib.Core.Path.{◌≡◌, refl, ap, sym, ◌∙◌}
 use mathlib.Core.Bool.{false, not, ◌||◌}
-use mathlib.Core.List.{List}
+use mathlib.Core.List.{List, [], ◌∷◌}
 use native.Mathlib.Omega.{arith}
 use borrow.Author.Tests.{eq-eqb, ne_eqb, le-ltb}
 use lib.Dec.{eqb, ltb}
@@ -16,8 +16,9 @@ use Rattle.lists.proofs.AnyBelow.{any_below_none}
 use Rattle.lists.proofs.EachOnce.{none_outside, none_repeated, true-each_once}
 use Rattle.lists.proofs.Front.{not_differs}
 use Rattle.lists.proofs.Values.{values-length, values_at}
+use Rattle.calls.specs.declared.Refusal.TheVariants.{Size, Length, Malformed, Misencoded}
 use Rattle.calls.specs.Refusal.{misfit}
-use Rattle.calls.proofs.Refusal.{one_miss, one_none, refusal_miss, refusal_none, fitting}
+use Rattle.calls.proofs.Refusals.{one_miss, one_none, first_miss, fitting}
 use Rattle.graph.specs.declared.Code.{Code}
 use Rattle.graph.specs.Sizes.{too_large, code_lengths}
 use Rattle.elimination.specs.Elimination.{infos, table}
@@ -26,7 +27,7 @@ use Rattle.lent.specs.Malformed.{bad_starts, twice, bad_coefs, foreign, disagree
 use Rattle.lent.specs.Misencoded.{reduced_in, misencoded}
 use Rattle.lent.specs.LentCode.{NotRefused}
 use Rattle.graph.specs.Buildable.{PartsFit}
-use Rattle.lent.specs.Sound.{Starts, Formed, Encoded, Sound}
+use Rattle.lent.specs.Sound.{Starts, Formed, Encoded, IsSound}
 
 -- ---- 2 and 3
 
@@ -110,10 +111,13 @@ encoded_passes c p w =
 
 -- ---- the code
 
-pub sound_passes : (c : Code) (p : Parts) → Sound c p → unused_hold c p ≡ false → NotRefused c p
+pub sound_passes : (c : Code) (p : Parts) → IsSound c p → unused_hold c p ≡ false → NotRefused c p
 sound_passes c p w u =
+    let wrong = (misencoded c p, Misencoded) ∷ [] in
+    let bad = (malformed c p, Malformed) ∷ wrong in
+    let short = (misfit (code_lengths p), Length) ∷ bad in
     sym
-    (refusal_miss 2 _ refl (sizes_pass c.n c.m w.fits.n_small w.fits.m_small)
-    (refusal_miss 3 _ refl (lengths_pass p w.fits.parts)
-    (refusal_miss 6 _ refl (formed_passes c p w.formed u)
-    (refusal_miss 7 _ refl (encoded_passes c p w.encoded) refusal_none))))
+    (first_miss Size short refl (sizes_pass c.n c.m w.fits.n_small w.fits.m_small)
+    (first_miss Length bad refl (lengths_pass p w.fits.parts)
+    (first_miss Malformed wrong refl (formed_passes c p w.formed u)
+    (first_miss Misencoded [] refl (encoded_passes c p w.encoded) refl))))

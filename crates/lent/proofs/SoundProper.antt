@@ -14,13 +14,13 @@ use Rattle.elimination.specs.Graph.{Edge, Graph, check_count, check, edges}
 use Rattle.elimination.specs.Held.{held}
 use Rattle.lent.specs.Misencoded.{graph_in}
 use Rattle.graph.specs.Parts.{Parts, variables}
-use Rattle.lent.specs.Sound.{Sound}
+use Rattle.lent.specs.Sound.{IsSound}
 use Rattle.elimination.proofs.Held.{held_checks, held-check}
 use Rattle.lent.proofs.Formed.{starts_end}
 use Rattle.lent.proofs.HeldVariables.{held-variables}
 use Rattle.graph.proofs.Proper.{Proper, vars_long}
 
-module _ (c : Code) (p : Parts) (w : Sound c p) where
+module _ (c : Code) (p : Parts) (w : IsSound c p) where
   abbrev g : Graph
   g = graph_in c p
 

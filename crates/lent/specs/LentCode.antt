@@ -1,39 +1,38 @@
--- How a lent code turns a call down: numbers 2, 3, 6 and 7, and the work parts that the test of a lent code takes. Document 01, "Turning a call down".
+-- How a lent code turns a call down: numbers 2, 3, 6 and 7. Document 01, "Turning a call down".
 -- Assumes nothing.
-use Rattle.std.specs.Prelude.{◌≡◌, Bool, List, [], ◌∷◌, ◌++◌, ℕ, length}
-use Rattle.calls.specs.Refusal.{refusal, misfits, misfit}
-use Rattle.calls.specs.Parts.{worked}
+use Rattle.std.specs.Prelude.{◌≡◌, Bool, List, [], ◌∷◌, ◌++◌, ℕ, None}
+use Rattle.calls.specs.Refusal.{first_of, misfits, misfit}
+use Rattle.calls.specs.declared.Refusal.{Refusal}
+use Rattle.calls.specs.declared.Refusal.TheVariants.{Size, Length, Malformed, Misencoded}
 use Rattle.graph.specs.declared.Code.{Code}
 use Rattle.graph.specs.Sizes.{too_large, code_lengths}
 use Rattle.graph.specs.Parts.{Parts}
 use Rattle.lent.specs.Malformed.{malformed}
-use Rattle.lent.specs.Misencoded.{misencoded}
+use Rattle.elimination.specs.Graph.{Graph}
+use Rattle.lent.specs.Held.{Held}
+use Rattle.lent.specs.Misencoded.{graph_in, misencoded}
 
 -- "A code, built or lent, is not refused where refusals 2 to 7 pass it": 4 and 5 are a build's
 abbrev pub NotRefused : Code → Parts → Type 0
-NotRefused c p = refusal ((too_large c.n c.m, 2) ∷ (misfit (code_lengths p), 3) ∷ (malformed c p, 6) ∷ (misencoded c p, 7) ∷ []) ≡ 0
+NotRefused c p = first_of ((too_large c.n c.m, Size) ∷ (misfit (code_lengths p), Length) ∷ (malformed c p, Malformed) ∷ (misencoded c p, Misencoded) ∷ []) ≡ None
 
--- the work parts: the matrix of the elimination, and its pivots
-pub record MatrixWork : Type 0 where
-  pub h : List ℕ
-  pub pivots : List ℕ
-
--- what stands in them
-abbrev pub lent_matrix : List ℕ → List ℕ → MatrixWork
-lent_matrix h pivots = record { h = h; pivots = pivots }
-
-abbrev pub matrix_lengths : MatrixWork → List (ℕ × ℕ)
-matrix_lengths w = (length w.h, 65536) ∷ (length w.pivots, 256) ∷ []
-
--- after number k
-abbrev pub matrix_left : ℕ → MatrixWork → MatrixWork
-matrix_left k w = record { h = worked k 0 w.h; pivots = worked k 0 w.pivots }
+-- the work parts of a call on a lent code, the matrix of the elimination and its pivots: their lengths
+abbrev pub matrix_lengths : ℕ → ℕ → List (ℕ × ℕ)
+matrix_lengths h pivots = (h, 65536) ∷ (pivots, 256) ∷ []
 
 -- the tests of a call on a lent code that come before its own; `rest` says whether a part of its own has a wrong length
-abbrev pub refusals : Code → Parts → MatrixWork → Bool → List (Bool × ℕ)
-refusals c p w rest =
-    (too_large c.n c.m, 2)
-    ∷ (misfits (code_lengths p ++ matrix_lengths w) rest, 3)
-    ∷ (malformed c p, 6)
-    ∷ (misencoded c p, 7)
+abbrev pub code_refusals : Code → Parts → ℕ → ℕ → Bool → List (Bool × Refusal)
+code_refusals c p h pivots rest =
+    (too_large c.n c.m, Size)
+    ∷ (misfits (code_lengths p ++ matrix_lengths h pivots) rest, Length)
+    ∷ (malformed c p, Malformed)
+    ∷ (misencoded c p, Misencoded)
     ∷ []
+
+-- the graph of a lent code
+abbrev pub graph_of : Held → Graph
+graph_of l = graph_in l.code l.parts
+
+-- the same tests of a lent code as a value
+abbrev pub lent_refusals : Held → ℕ → ℕ → Bool → List (Bool × Refusal)
+lent_refusals l h pivots rest = code_refusals l.code l.parts h pivots rest

@@ -1,3 +1,4 @@
+pub mod Held
 pub mod Malformed
 pub mod Misencoded
 pub mod LentCode

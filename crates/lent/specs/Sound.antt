@@ -1,11 +1,12 @@
--- What the refusals leave of a lent code. Ours; only `requires` of private functions and laws cite it, and no public call's contract.
+-- What refusals 2 to 7 leave of a lent code. Ours; laws and functions below the public calls cite it.
 -- Assumes nothing.
-use Rattle.std.specs.Prelude.{ℕ, ◌+◌, ◌<◌, ◌≤◌, ◌≡◌, length}
+use Rattle.std.specs.Prelude.{ℕ, ◌+◌, ◌<◌, ◌≤◌, ◌≡◌, false, length}
 use Rattle.lists.specs.EachOnce.{EachOnce}
 use Rattle.lists.specs.Entry.{nth}
 use Rattle.graph.specs.declared.Code.{Code}
 use Rattle.elimination.specs.Elimination.{infos, table}
 use Rattle.graph.specs.Parts.{Parts}
+use Rattle.lent.specs.Malformed.{unused_hold}
 use Rattle.lent.specs.Misencoded.{reduced_in}
 use Rattle.graph.specs.Buildable.{PartsFit}
 
@@ -41,7 +42,12 @@ pub record Encoded (c : Code) (p : Parts) : Type 0 where
   pub info : (t : ℕ) → t < length (infos c.n (reduced_in c p)) → nth p.info t ≡ nth (infos c.n (reduced_in c p)) t
   pub a : (k : ℕ) → k < length (table c.n (reduced_in c p)) → nth p.a k ≡ nth (table c.n (reduced_in c p)) k
 
-pub record Sound (c : Code) (p : Parts) : Type 0 where
+pub record IsSound (c : Code) (p : Parts) : Type 0 where
   pub fits : Fits c p
   pub formed : Formed c p
   pub encoded : Encoded c p
+
+-- a lent code that refusals 2 to 7 pass, and no other is one (`accepted` in proofs/SoundCode.antt, `sound_passes` in proofs/SoundPasses.antt): the type `Sound` holds it
+pub record IsAccepted (c : Code) (p : Parts) : Type 0 where
+  pub sound : IsSound c p
+  pub unused : unused_hold c p ≡ false

@@ -1,95 +1,109 @@
-// The one place that tells whether what is lent is a code: every call on a lent code begins here.
+// A lent code, and the one place that tells whether it is a code: every call on a lent code begins there.
 #![tactic(auto)]
 
 ghost use Rattle.std.specs.Prelude.{◌≡◌, ◌∷◌, [], length};
-ghost use Rattle.calls.specs.Refusal.{refusal};
-ghost use Rattle.graph.specs.Parts.{lent};
+ghost use Rattle.calls.specs.Refusal.{first_of, answered};
+ghost use Rattle.calls.specs.Parts.{worked};
 ghost use Rattle.lent.specs.Malformed.{malformed};
 ghost use Rattle.lent.specs.Misencoded.{misencoded};
-ghost use Rattle.lent.specs.LentCode.{MatrixWork, lent_matrix, matrix_left, refusals};
+ghost use Rattle.lent.specs.LentCode.{code_refusals};
 ghost use Rattle.lent.specs.Sound.{Fits};
 
-use calls::clear;
+use calls::Refusal;
 use graph::{Code, refusals};
+use std::marker::Model;
 
 mod malformed;
 mod misencoded;
 
-// 6 and 7, of parts that have their lengths.
-fn bad_code(
-    code: Code,
-    var: &[u16],
-    coef: &[u8],
-    row: &[u16],
-    start: &[u16],
-    col: &[u16],
-    order: &[u16],
-    parity: &[u16],
-    info: &[u16],
-    a: &[u8],
-    h: &mut [u8],
-    pivots: &mut [u16],
-) -> u8
-    requires fits { Fits code (lent var.now coef.now row.now start.now col.now order.now parity.now info.now a.now) }
-    requires h_len { (length h.old ≡ 65536) × (length pivots.old ≡ 256) }
-    ensures { result ≡ refusal
-        ((malformed code (lent var.now coef.now row.now start.now col.now order.now parity.now info.now a.now), 6)
-        ∷ (misencoded code (lent var.now coef.now row.now start.now col.now order.now parity.now info.now a.now), 7) ∷ []) }
-{
-    if malformed::malformed(code, var, coef, row, start, col, order, parity, info, a) {
-        return 6;
-    }
-    if misencoded::misencoded(
-        code, var, coef, row, start, col, order, parity, info, a, h, pivots,
-    ) {
-        return 7;
-    }
-    0
+// The numbers of a code and the nine parts in which it stands: a graph of edges grouped by check, each variable's places in that list, a column order, and the
+// encoder that elimination gives for it. What is lent may be anything.
+#[derive(Drop)]
+pub struct Lent<'a> {
+    pub numbers: Code,
+    pub var: &'a [u16],
+    pub coef: &'a [u8],
+    pub row: &'a [u16],
+    pub start: &'a [u16],
+    pub col: &'a [u16],
+    pub order: &'a [u16],
+    pub parity: &'a [u16],
+    pub info: &'a [u16],
+    pub a: &'a [u8],
 }
 
-// The number by which a lent code turns a call down, 0 where it does not. `h` and `pivots` are work parts; `rest` says whether a part of the call's own has a
-// wrong length.
-pub fn refused(
-    code: Code,
-    var: &[u16],
-    coef: &[u8],
-    row: &[u16],
-    start: &[u16],
-    col: &[u16],
-    order: &[u16],
-    parity: &[u16],
-    info: &[u16],
-    a: &[u8],
-    h: &mut [u8],
-    pivots: &mut [u16],
-    rest: bool,
-) -> u8
-    ensures value { result ≡ refusal (refusals code
-        (lent var.now coef.now row.now start.now col.now order.now parity.now info.now a.now)
-        (lent_matrix h.old pivots.old) rest) }
-    ensures fact { ◌≡◌ {A = MatrixWork} (lent_matrix h.new pivots.new) (matrix_left result (lent_matrix h.old pivots.old)) }
-{
-    let work = (h.len() != 65536) | ((pivots.len() != 256) | rest);
-    let misfit = refusals::code_misfit(
-        var.len(),
-        coef.len(),
-        row.len(),
-        start.len(),
-        col.len(),
-        order.len(),
-        parity.len(),
-        info.len(),
-        a.len(),
-        work,
-    );
-    let early = refusals::early(code.n, code.m, misfit);
-    if early != 0 {
-        return early;
+impl<'a> Model for Lent<'a> {
+    ghost use Rattle.lent.specs.Held.{Held};
+
+    ghost Value = { Held };
+
+    ghost view = { λ l. record { code = l.numbers; parts = record { var = l.var.now; coef = l.coef.now; row = l.row.now; start = l.start.now; col = l.col.now; order = l.order.now; parity = l.parity.now; info = l.info.now; a = l.a.now } } };
+}
+
+// A lent code that refusals 2 to 7 pass.
+#[derive(Drop)]
+pub struct Sound<'s, 'a> {
+    pub lent: &'s Lent<'a>,
+}
+
+impl<'s, 'a> Model for Sound<'s, 'a> {
+    ghost use Rattle.lent.specs.Held.{Held};
+    ghost use Rattle.lent.specs.Sound.{IsAccepted};
+
+    ghost Value = { Held };
+
+    ghost view = { λ s. s.lent.now };
+
+    ghost invariant = { λ s. IsAccepted s.lent.now.code s.lent.now.parts };
+}
+
+impl<'a> Lent<'a> {
+    // 6 and 7, of parts that have their lengths.
+    fn tested(&self, h: &mut [u8], pivots: &mut [u16]) -> Result<(), Refusal>
+        requires fits { Fits self.now.code self.now.parts }
+        requires h_len { (length h.old ≡ 65536) × (length pivots.old ≡ 256) }
+        ensures { result ≡ answered
+            (first_of ((malformed self.now.code self.now.parts, Refusal.Malformed) ∷ (misencoded self.now.code self.now.parts, Refusal.Misencoded) ∷ [])) tt }
+    {
+        if malformed::malformed(self) {
+            return Err(Refusal::Malformed);
+        }
+        if misencoded::misencoded(self, h, pivots) {
+            return Err(Refusal::Misencoded);
+        }
+        Ok(())
     }
-    let late = bad_code(
-        code, var, coef, row, start, col, order, parity, info, a, h, pivots,
-    );
-    clear::clear_u8(h);
-    clear::clear_u16(pivots);
-    late
+
+    // The same code as one that was tested. `h` and `pivots` are work parts; `rest` says whether a part of the call's own has a wrong length.
+    // No plainer as one struct of the two: they are lent one by one, and a clause says of each what is left.
+    pub fn accepted<'s>(
+        &'s self,
+        h: &mut [u8],
+        pivots: &mut [u16],
+        rest: bool,
+    ) -> Result<Sound<'s, 'a>, Refusal>
+        ensures answer { result ≡ answered (first_of (code_refusals self.now.code self.now.parts (length h.old) (length pivots.old) rest)) self.now }
+        ensures h_after { h.new ≡ worked result 0 h.old }
+        ensures pivots_after { pivots.new ≡ worked result 0 pivots.old }
+    {
+        let work = (h.len() != 65536) | ((pivots.len() != 256) | rest);
+        let misfit = refusals::code_misfit(
+            self.var.len(),
+            self.coef.len(),
+            self.row.len(),
+            self.start.len(),
+            self.col.len(),
+            self.order.len(),
+            self.parity.len(),
+            self.info.len(),
+            self.a.len(),
+            work,
+        );
+        refusals::early(self.numbers.n, self.numbers.m, misfit)?;
+        let tested = self.tested(h, pivots);
+        h.fill(0);
+        pivots.fill(0);
+        tested?;
+        Ok(Sound { lent: self })
+    }
 }

@@ -1,26 +1,20 @@
-// Number 6: whether what stands in lent parts is no graph with a column order. Each test is tried only where those before it let no index run outside.
-ghost use Rattle.std.specs.Prelude.{◌≡◌, not, ℕ, ◌+◌, ◌-◌, ◌<◌, ◌≤◌, eqb, ltb, length};
+// Number 6: whether what stands in lent parts is no graph with a column order. Each test is tried only where those before it let no index run outside. The C interface
+// lends parts of fixed lengths, so what counts of each is told by a number beside it.
+ghost use Rattle.std.specs.Prelude.{◌≡◌, not, ◌||◌, ℕ, ◌+◌, ◌-◌, ◌<◌, ◌≤◌, eqb, leb, ltb, length, drop};
+ghost use Rattle.std.specs.List.{list_any};
 ghost use Rattle.lists.specs.AnyBelow.{any_below};
-ghost use Rattle.lists.specs.EachOnce.{outside, repeated, each_once};
+ghost use Rattle.lists.specs.EachOnce.{repeated, each_once};
 ghost use Rattle.lists.specs.Entry.{nth};
-ghost use Rattle.lists.specs.Front.{used_past};
-ghost use Rattle.graph.specs.Parts.{lent};
 ghost use Rattle.lent.specs.Malformed.{bad_starts, twice, bad_coefs, foreign, disagree, unused_hold, malformed};
 ghost use Rattle.lent.specs.Sound.{Fits};
 
-use graph::Code;
+use crate::Lent;
 
-// Whether one of k lists starts past the next.
-fn falls(k: usize, starts: &[u16]) -> bool
-    requires { k < length starts.now }
-    ensures { result ≡ any_below k (λ i. ltb (nth starts.now (i + 1)) (nth starts.now i)) }
+// Whether a start is past the next.
+fn falls(starts: &[u16]) -> bool
+    ensures { result ≡ any_below (length starts.now - 1) (λ i. ltb (nth starts.now (i + 1)) (nth starts.now i)) }
 {
-    for i in 0..k {
-        if starts[i + 1] < starts[i] {
-            return true;
-        }
-    }
-    false
+    !starts.is_sorted()
 }
 
 // Whether the starts of k lists do not go from 0 to the count without falling.
@@ -28,47 +22,37 @@ fn bad_starts(k: usize, count: usize, starts: &[u16]) -> bool
     requires { k < length starts.now }
     ensures { result ≡ bad_starts k count starts.now }
 {
-    (starts[0] != 0) | (falls(k, starts) | (starts[k] as usize != count))
+    (starts[0] != 0) | (falls(&starts[..k + 1]) | (starts[k] as usize != count))
 }
 
-// Whether one of the first entries is not below the bound.
-fn outside(bound: usize, count: usize, part: &[u16]) -> bool
-    requires { count ≤ length part.now }
-    ensures { result ≡ outside bound count (nth part.now) }
+// Whether an entry is not below the bound.
+fn outside(bound: usize, part: &[u16]) -> bool
+    ensures { result ≡ list_any (λ x. leb bound x) part.now }
 {
-    for k in 0..count {
-        if part[k] as usize >= bound {
-            return true;
-        }
-    }
-    false
+    part.iter().any(|x| *x as usize >= bound)
 }
 
-// Whether two of the entries from one place on are the same.
-fn repeated(part: &[u16], from: usize, count: usize) -> bool
-    requires { (from + count ≤ length part.now) × ((j : ℕ) → j < count → nth part.now (from + j) < 512) }
-    ensures { result ≡ repeated count (λ j. nth part.now (from + j)) }
+// Whether two entries are the same.
+fn repeated(part: &[u16]) -> bool
+    requires { (j : ℕ) → j < length part.now → nth part.now j < 512 }
+    ensures { result ≡ repeated (length part.now) (nth part.now) }
 {
     let mut seen = [false; 512];
-    for j in 0..count {
-        let x = part[from + j] as usize;
-        if seen[x] {
+    for x in part {
+        if seen[*x as usize] {
             return true;
         }
-        seen[x] = true;
+        seen[*x as usize] = true;
     }
     false
 }
 
-// Whether the first entries are each number below their count once.
-fn each_once(count: usize, part: &[u16]) -> bool
-    requires { (count ≤ length part.now) × (count ≤ 512) }
-    ensures { result ≡ each_once count (nth part.now) }
+// Whether the entries are each number below their count once.
+fn each_once(part: &[u16]) -> bool
+    requires { length part.now ≤ 512 }
+    ensures { result ≡ each_once (length part.now) (nth part.now) }
 {
-    if outside(count, count, part) {
-        return false;
-    }
-    !repeated(part, 0, count)
+    !outside(part.len(), part) && !repeated(part)
 }
 
 // Whether a variable stands twice in one of m checks.
@@ -78,10 +62,9 @@ fn twice(m: usize, row: &[u16], var: &[u16]) -> bool
     requires by_index_2 { (e : ℕ) → e < nth row.now m → nth var.now e < 512 }
     ensures { result ≡ twice m row.now var.now }
 {
+    // No plainer: check c's edges begin and end by row[c] and row[c + 1].
     for c in 0..m {
-        let from = row[c] as usize;
-        let to = row[c + 1] as usize;
-        if repeated(var, from, to - from) {
+        if repeated(&var[row[c] as usize..row[c + 1] as usize]) {
             return true;
         }
     }
@@ -89,25 +72,19 @@ fn twice(m: usize, row: &[u16], var: &[u16]) -> bool
 }
 
 // Whether a coefficient is not 1 to 31.
-fn bad_coefs(count: usize, coef: &[u8]) -> bool
-    requires { count ≤ length coef.now }
-    ensures { result ≡ bad_coefs count coef.now }
+fn bad_coefs(coef: &[u8]) -> bool
+    ensures { result ≡ list_any (λ x. eqb x 0 || ltb 31 x) coef.now }
 {
-    for e in 0..count {
-        if (coef[e] == 0) | (coef[e] > 31) {
-            return true;
-        }
-    }
-    false
+    coef.iter().any(|x| (*x == 0) | (*x > 31))
 }
 
-// Whether one of the places from one entry on is of another variable's edge.
-fn foreign_list(v: usize, var: &[u16], col: &[u16], from: usize, count: usize) -> bool
-    requires { (from + count ≤ length col.now) × ((j : ℕ) → j < count → nth col.now (from + j) < length var.now) }
-    ensures { result ≡ any_below count (λ j. not (eqb (nth var.now (nth col.now (from + j))) v)) }
+// Whether one of the places is of another variable's edge.
+fn foreign_list(v: usize, var: &[u16], places: &[u16]) -> bool
+    requires { (j : ℕ) → j < length places.now → nth places.now j < length var.now }
+    ensures { result ≡ any_below (length places.now) (λ j. not (eqb (nth var.now (nth places.now j)) v)) }
 {
-    for j in 0..count {
-        if var[col[from + j] as usize] as usize != v {
+    for e in places {
+        if var[*e as usize] as usize != v {
             return true;
         }
     }
@@ -121,10 +98,9 @@ fn foreign(n: usize, var: &[u16], start: &[u16], col: &[u16]) -> bool
     requires by_index_2 { (k : ℕ) → k < nth start.now n → nth col.now k < 512 }
     ensures { result ≡ foreign n var.now start.now col.now }
 {
+    // No plainer: v's list begins and ends by start[v] and start[v + 1].
     for v in 0..n {
-        let from = start[v] as usize;
-        let to = start[v + 1] as usize;
-        if foreign_list(v, var, col, from, to - from) {
+        if foreign_list(v, var, &col[start[v] as usize..start[v + 1] as usize]) {
             return true;
         }
     }
@@ -139,106 +115,70 @@ fn disagree(n: usize, count: usize, var: &[u16], start: &[u16], col: &[u16]) -> 
     if bad_starts(n, count, start) {
         return true;
     }
-    if !each_once(count, col) {
+    if !each_once(&col[..count]) {
         return true;
     }
     foreign(n, var, start, col)
 }
 
-// Whether an entry past the first k is not 0. No branch inside, so that it becomes vector code.
-fn used_past_u8(k: usize, part: &[u8]) -> bool
-    ensures { result ≡ used_past k part.now }
-{
-    let mut any = 0u8;
-    for j in k..part.len() {
-        any = any | part[j];
-    }
-    any != 0
-}
-
-fn used_past_u16(k: usize, part: &[u16]) -> bool
-    ensures { result ≡ used_past k part.now }
+// Whether an entry past the first k is not 0. Tried, slower: `any` leaves early, so that it becomes no vector code, and takes ten times as long. k may be past the part's end.
+fn used_past<T: Copy + Into<u16>>(k: usize, part: &[T]) -> bool
+    ensures { (value : T → ℕ) → ((x : T) (y : ℕ) → T.converts x y → y ≡ value x) → result ≡ list_any (λ x. not (eqb (value x) 0)) (drop k part.now) }
 {
     let mut any = 0u16;
-    for j in k..part.len() {
-        any = any | part[j];
+    for x in &part[k.min(part.len())..] {
+        any |= (*x).into();
     }
     any != 0
 }
 
-// Of n symbols and a rank: how many information symbols there are.
-fn info_count(n: usize, rank: usize) -> usize
-    ensures { result ≡ n - rank }
+// Whether an entry that the code's numbers leave unused is not 0. No plainer, here and below: a type for the three tests that ask for the lengths would serve one call.
+fn unused_hold(code: &Lent) -> bool
+    requires { Fits code.now.code code.now.parts }
+    ensures { result ≡ unused_hold code.now.code code.now.parts }
 {
-    if rank < n {
-        return n - rank;
-    }
-    0
+    let k = code.numbers.n.saturating_sub(code.numbers.rank);
+    used_past(code.numbers.edges, code.var)
+        | (used_past(code.numbers.edges, code.coef)
+            | (used_past(code.numbers.m + 1, code.row)
+                | (used_past(code.numbers.n + 1, code.start)
+                    | (used_past(code.numbers.edges, code.col)
+                        | (used_past(code.numbers.n, code.order)
+                            | (used_past(code.numbers.rank, code.parity)
+                                | (used_past(k, code.info)
+                                    | used_past(code.numbers.rank * k, code.a))))))))
 }
 
-// Whether an entry that the code's numbers leave unused is not 0.
-fn unused_hold(
-    code: Code,
-    var: &[u16],
-    coef: &[u8],
-    row: &[u16],
-    start: &[u16],
-    col: &[u16],
-    order: &[u16],
-    parity: &[u16],
-    info: &[u16],
-    a: &[u8],
-) -> bool
-    requires { Fits code (lent var.now coef.now row.now start.now col.now order.now parity.now info.now a.now) }
-    ensures { result ≡ unused_hold code (lent var.now coef.now row.now start.now col.now order.now parity.now info.now a.now) }
+pub fn malformed(code: &Lent) -> bool
+    requires { Fits code.now.code code.now.parts }
+    ensures { result ≡ malformed code.now.code code.now.parts }
 {
-    let k = info_count(code.n, code.rank);
-    used_past_u16(code.edges, var)
-        | (used_past_u8(code.edges, coef)
-            | (used_past_u16(code.m + 1, row)
-                | (used_past_u16(code.n + 1, start)
-                    | (used_past_u16(code.edges, col)
-                        | (used_past_u16(code.n, order)
-                            | (used_past_u16(code.rank, parity)
-                                | (used_past_u16(k, info)
-                                    | (used_past_u8(code.rank * k, a) | false))))))))
-}
-
-pub fn malformed(
-    code: Code,
-    var: &[u16],
-    coef: &[u8],
-    row: &[u16],
-    start: &[u16],
-    col: &[u16],
-    order: &[u16],
-    parity: &[u16],
-    info: &[u16],
-    a: &[u8],
-) -> bool
-    requires { Fits code (lent var.now coef.now row.now start.now col.now order.now parity.now info.now a.now) }
-    ensures { result ≡ malformed code (lent var.now coef.now row.now start.now col.now order.now parity.now info.now a.now) }
-{
-    if code.edges > 512 {
+    if code.numbers.edges > 512 {
         return true;
     }
-    if bad_starts(code.m, code.edges, row) {
+    if bad_starts(code.numbers.m, code.numbers.edges, code.row) {
         return true;
     }
-    if outside(code.n, code.edges, var) {
+    if outside(code.numbers.n, &code.var[..code.numbers.edges]) {
         return true;
     }
-    if twice(code.m, row, var) {
+    if twice(code.numbers.m, code.row, code.var) {
         return true;
     }
-    if bad_coefs(code.edges, coef) {
+    if bad_coefs(&code.coef[..code.numbers.edges]) {
         return true;
     }
-    if disagree(code.n, code.edges, var, start, col) {
+    if disagree(
+        code.numbers.n,
+        code.numbers.edges,
+        code.var,
+        code.start,
+        code.col,
+    ) {
         return true;
     }
-    if !each_once(code.n, order) {
+    if !each_once(&code.order[..code.numbers.n]) {
         return true;
     }
-    unused_hold(code, var, coef, row, start, col, order, parity, info, a)
+    unused_hold(code)
 }

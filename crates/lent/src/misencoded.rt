@@ -1,4 +1,5 @@
-// Number 7: whether a lent code's parity, information or table is not what elimination gives for its graph and order.
+// Number 7: whether a lent code's parity, information or table is not what elimination gives for its graph and order. The C interface lends parts of fixed lengths, so
+// what counts of each is told by a number beside it.
 ghost use Rattle.std.specs.Prelude.{◌≡◌, not, ℕ, ◌+◌, ◌*◌, ◌<◌, ◌≤◌, eqb, length, take};
 ghost use Rattle.lists.specs.Among.{among};
 ghost use Rattle.lists.specs.AnyBelow.{any_below};
@@ -7,26 +8,20 @@ ghost use Rattle.lists.specs.Entry.{nth};
 ghost use Rattle.lists.specs.Front.{differs};
 ghost use Rattle.lists.specs.Keep.{keep_below};
 ghost use Rattle.lists.specs.Values.{values};
-ghost use Rattle.graph.specs.Parts.{lent};
 ghost use Rattle.lent.specs.Misencoded.{misencoded};
 ghost use Rattle.lent.specs.Sound.{Fits, Formed};
 
+use crate::Lent;
 use elimination::elimination::eliminate;
 use elimination::encoder::matrix;
 use elimination::positions::is_among;
-use graph::Code;
 
-// Whether the first r entries differ.
-fn pivots_differ(r: usize, pivots: &[u16], parity: &[u16]) -> bool
-    requires { (r ≤ length pivots.now) × (r ≤ length parity.now) }
-    ensures { result ≡ differs (take r pivots.now) parity.now }
+// Whether the front of `parity` is not the pivots.
+fn pivots_differ(pivots: &[u16], parity: &[u16]) -> bool
+    requires { length pivots.now ≤ length parity.now }
+    ensures { result ≡ differs pivots.now parity.now }
 {
-    for i in 0..r {
-        if parity[i] != pivots[i] {
-            return true;
-        }
-    }
-    false
+    !parity.starts_with(pivots)
 }
 
 // Whether the front of `info` is not the positions below n that are no pivots.
@@ -35,8 +30,9 @@ fn infos_differ(n: usize, r: usize, pivots: &[u16], info: &[u16]) -> bool
     ensures { result ≡ differs (keep_below (λ j. not (among r (nth pivots.now) j)) n) info.now }
 {
     let mut k = 0;
+    // No plainer: the position j itself is compared, and `info` goes on only where it is free.
     for j in 0..n {
-        if !is_among(pivots, r, j) {
+        if !is_among(&pivots[..r], j) {
             if info[k] as usize != j {
                 return true;
             }
@@ -46,29 +42,29 @@ fn infos_differ(n: usize, r: usize, pivots: &[u16], info: &[u16]) -> bool
     false
 }
 
-// Whether a row of the table is not the matrix's row i at the k information positions.
-fn row_differs(i: usize, k: usize, at: usize, h: &[u8], info: &[u16], a: &[u8]) -> bool
-    requires i_bound { (i < 256) × (length h.now ≡ 65536) × (length info.now ≡ 256) × (k ≤ 256) × (at + k ≤ 16384) × (length a.now ≡ 16384) }
-    requires by_index { (t : ℕ) → t < k → nth info.now t < 256 }
-    ensures { result ≡ any_below k (λ t. not (eqb (nth a.now (at + t)) (nth h.now (i * 256 + nth info.now t)))) }
+// Whether a row of the table is not the matrix's row at the information positions.
+fn row_differs(a: &[u8], row: &[u8], info: &[u16]) -> bool
+    requires { (length a.now ≡ length info.now) × ((t : ℕ) → t < length info.now → nth info.now t < length row.now) }
+    ensures { result ≡ any_below (length info.now) (λ t. not (eqb (nth a.now t) (nth row.now (nth info.now t)))) }
 {
-    for t in 0..k {
-        if a[at + t] != h[i * 256 + info[t] as usize] {
+    for (t, place) in info.iter().enumerate() {
+        if a[t] != row[*place as usize] {
             return true;
         }
     }
     false
 }
 
-// The same of all r rows.
+// The same of all r rows of k entries.
 fn table_differs(r: usize, k: usize, h: &[u8], info: &[u16], a: &[u8]) -> bool
     requires r_bound { (r ≤ 256) × (k ≤ 256) × (length h.now ≡ 65536) × (length info.now ≡ 256) × (length a.now ≡ 16384) × (r * k ≤ 16384) }
     requires by_index { (t : ℕ) → t < k → nth info.now t < 256 }
     ensures { result ≡ differs (chain r (λ i. values k (λ t. nth h.now (i * 256 + nth info.now t)))) a.now }
 {
     let mut at = 0;
+    // No plainer: i counts the matrix's rows of 256 and `at` the table's of k, which may be 0.
     for i in 0..r {
-        if row_differs(i, k, at, h, info, a) {
+        if row_differs(&a[at..at + k], &h[i * 256..i * 256 + 256], &info[..k]) {
             return true;
         }
         at += k;
@@ -77,32 +73,21 @@ fn table_differs(r: usize, k: usize, h: &[u8], info: &[u16], a: &[u8]) -> bool
 }
 
 // Runs the elimination in `h` and `pivots`, and leaves it there.
-pub fn misencoded(
-    code: Code,
-    var: &[u16],
-    coef: &[u8],
-    row: &[u16],
-    start: &[u16],
-    col: &[u16],
-    order: &[u16],
-    parity: &[u16],
-    info: &[u16],
-    a: &[u8],
-    h: &mut [u8],
-    pivots: &mut [u16],
-) -> bool
-    requires fits { Fits code (lent var.now coef.now row.now start.now col.now order.now parity.now info.now a.now) }
-    requires formed { Formed code (lent var.now coef.now row.now start.now col.now order.now parity.now info.now a.now) }
+pub fn misencoded(code: &Lent, h: &mut [u8], pivots: &mut [u16]) -> bool
+    requires fits { Fits code.now.code code.now.parts }
+    requires formed { Formed code.now.code code.now.parts }
     requires h_len { (length h.old ≡ 65536) × (length pivots.old ≡ 256) }
-    ensures { result ≡ misencoded code (lent var.now coef.now row.now start.now col.now order.now parity.now info.now a.now) }
+    ensures { result ≡ misencoded code.now.code code.now.parts }
 {
-    matrix(code.m, var, coef, row, h);
-    let r = eliminate(code.n, code.m, order, h, pivots);
-    if r != code.rank {
+    matrix(code.numbers.m, code.var, code.coef, code.row, h);
+    let r = eliminate(code.numbers.n, code.numbers.m, code.order, h, pivots);
+    if r != code.numbers.rank {
         return true;
     }
-    if pivots_differ(r, pivots, parity) | infos_differ(code.n, r, pivots, info) {
+    if pivots_differ(&pivots[..r], code.parity)
+        | infos_differ(code.numbers.n, r, pivots, code.info)
+    {
         return true;
     }
-    table_differs(r, code.n - r, h, info, a)
+    table_differs(r, code.numbers.n - r, h, code.info, code.a)
 }

@@ -1,4 +1,4 @@
--- Laws of what passes a test: as a loop that writes it to the front of a part, and which numbers are there.
+-- Laws of what passes a test: how it is made up, and which numbers are there.
 -- Assumes nothing.
 use Prim.Native.Nat.{ℕ, zero, suc, ◌+◌, ◌<◌, ◌≤◌}
 use mathlib.Core.Path.{◌≡◌, refl, ap, ap₂, sym, ◌∙◌}
@@ -15,7 +15,6 @@ use Rattle.lists.specs.Iter.{iter}
 use Rattle.lists.specs.Keep.{keep, keep_below}
 use Rattle.lists.proofs.Cases.{true_or_false}
 use Rattle.lists.proofs.Choice.{pick-true, pick-false}
-use Rattle.lists.proofs.Fold.{take_more}
 use Rattle.lists.proofs.Iter.{iter_ext}
 use Rattle.lists.proofs.Rising.{rises}
 
@@ -35,14 +34,6 @@ module _ (test : ℕ → Bool) where
 pub push_more {ℓ} : {A : Type ℓ} (out : List A) (w : ℕ) (x : A) → w < length out → take (w + 1) (set out w x) ≡ take w out ++ x ∷ []
 push_more out w x h = rw (add-one, take-suc-set)
 
--- j entries of l are tried, and those that pass stand in the first w places of out
-module _ (test : ℕ → Bool) (l out : List ℕ) (j w x : ℕ) (h : j < length l) (e : get_or l j 0 ≡ x) (q : take w out ≡ keep test (take j l)) where
-  pub keep_pass : w < length out → test x ≡ true → take (w + 1) (set out w x) ≡ keep test (take (j + 1) l)
-  keep_pass b t = rw (push_more out w x b, take_more 0 l j x h e, keep-append, keep_one, pick-true _ _ _ t, q)
-
-  pub keep_fail : test x ≡ false → take w out ≡ keep test (take (j + 1) l)
-  keep_fail t = rw (take_more 0 l j x h e, keep-append, keep_one, pick-false _ _ _ t, append-nil, q)
-
 -- ---- of the numbers below m
 
 module _ (test : ℕ → Bool) where
@@ -61,16 +52,6 @@ module _ (test : ℕ → Bool) where
   pub keep_below_empty : length (keep_below test 0) ≡ 0
   unfolding keep_below
   keep_below_empty = refl
-
-  pub keep_below_start : (out : List ℕ) → take 0 out ≡ keep_below test 0
-  unfolding keep_below
-  keep_below_start out = refl
-
-  pub keep_below_pass : (out : List ℕ) (m w : ℕ) → w < length out → test m ≡ true → take w out ≡ keep_below test m → take (w + 1) (set out w m) ≡ keep_below test (m + 1)
-  keep_below_pass out m w b t q = rw (push_more out w m b, add-one m, keep_below_yes m t, q)
-
-  pub keep_below_fail : (out : List ℕ) (m w : ℕ) → test m ≡ false → take w out ≡ keep_below test m → take w out ≡ keep_below test (m + 1)
-  keep_below_fail out m w t q = rw (add-one m, keep_below_no m t, q)
 
   pub keep_below-length : (m : ℕ) → length (keep_below test m) ≤ m
   unfolding keep_below

@@ -26,3 +26,8 @@ pub mod Chain
 pub mod Times
 pub mod Marked
 pub mod UsedPast
+pub mod ListAny
+pub mod InPlace
+pub mod ListSearch
+pub mod Sorted
+pub mod StartsWith

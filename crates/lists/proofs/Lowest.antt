@@ -46,9 +46,6 @@ module _ (test : ℕ → Bool) where
 
   -- ---- as a loop runs it
 
-  pub lowest_start : (m : ℕ) → lowest test (m - 0) 0 ≡ lowest test m 0
-  lowest_start m = let z : m - 0 ≡ m = omega arith in ap (λ (k : ℕ). lowest test k 0) z
-
   pub lowest_on : (m p w : ℕ) → p < m → test p ≡ false → lowest test (m - p) p ≡ w → lowest test (m - (p + 1)) (p + 1) ≡ w
   lowest_on m p w h t e =
       let z : m - p ≡ suc (m - (p + 1)) = omega arith in

@@ -1,13 +1,13 @@
 -- Values placed at positions of a list: none, one more and all; its length, and its entry at one of the positions and at any other.
 -- Assumes nothing.
-use mathlib.Core.Path.{◌≡◌, refl, sym, ap₂, ◌∙◌}
+use mathlib.Core.Path.{◌≡◌, refl, sym, ap, ap₂, ◌∙◌}
 use mathlib.Core.Logic.{◌≢◌, ◌⊎◌, inl, inr, ⊎_elim}
 use mathlib.Core.List.{List}
-use Prim.Native.Nat.{ℕ, zero, suc, ◌+◌, ◌<◌}
+use Prim.Native.Nat.{ℕ, zero, suc, ◌+◌, ◌<◌, ◌≤◌}
 use native.Mathlib.Nat.{le_refl, le_step, not-suc-le-zero}
 use native.Mathlib.Omega.{arith}
-use lib.ListN.{length, set, length-set}
-use lib.Seq.{get_or-set_same, get_or-set_other, set_out}
+use lib.ListN.{length, set, take, length-set}
+use lib.Seq.{get_or-set_same, get_or-set_other, set_out, get_or-take, length-take-le}
 use Rattle.lists.specs.Iter.{iter}
 use Rattle.lists.specs.Entry.{nth}
 use Rattle.lists.specs.Placed.{placed}
@@ -68,3 +68,9 @@ module _ (p v : ℕ → ℕ) (x : List ℕ) where
 pub placed_ext : (k : ℕ) (p q v u : ℕ → ℕ) (x : List ℕ) → ((t : ℕ) → t < k → p t ≡ q t) → ((t : ℕ) → t < k → v t ≡ u t) → placed k p v x ≡ placed k q u x
 unfolding placed
 placed_ext k p q v u x e f = iter_ext k (λ t y. set y (p t) (v t)) (λ t y. set y (q t) (u t)) x (λ t h y. ap₂ (λ (i a : ℕ). set y i a) (e t h) (f t h))
+
+-- at the positions in front of a list
+pub placed_front : (l : List ℕ) (k : ℕ) (v : ℕ → ℕ) (x : List ℕ) → k ≤ length l → placed (length (take k l)) (nth (take k l)) v x ≡ placed k (nth l) v x
+placed_front l k v x h =
+    ap (λ (n : ℕ). placed n (nth (take k l)) v x) (length-take-le k l h)
+    ∙ placed_ext k (nth (take k l)) (nth l) v v x (λ t b. get_or-take k l t 0 b) (λ t b. refl)

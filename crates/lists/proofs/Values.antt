@@ -1,13 +1,13 @@
 -- Laws of the list of given values: its entries and its length. A part that a loop fills with them is in Laid.antt.
 -- Assumes nothing.
-use Prim.Native.Nat.{ℕ, zero, suc, ◌+◌, ◌-◌, ◌<◌, ◌≤◌}
+use Prim.Native.Nat.{ℕ, zero, suc, ◌+◌, ◌-◌, ◌<◌}
 use mathlib.Core.Path.{◌≡◌, refl, ap, sym, ◌∙◌}
 use mathlib.Core.List.{List, [], ◌∷◌, ◌++◌, map, append-nil, append_assoc, reverse, reverse-cons}
 use native.Mathlib.Nat.{add-zero, zero-add, add-suc, suc-add, le_of_suc-le-suc, not-suc-le-zero}
 use native.Mathlib.Numerals.{add-one}
 use native.Mathlib.Omega.{arith}
-use lib.ListN.{length, get_or, replicate, take}
-use lib.Seq.{ext_get_or, length-take-le, get_or-take}
+use lib.ListN.{length, get_or, replicate}
+use lib.Seq.{ext_get_or}
 use Rattle.lists.specs.Values.{values, values_from}
 
 module _ {ℓ} {A : Type ℓ} (f : ℕ → A) where
@@ -60,12 +60,6 @@ pub values_own {ℓ} : {A : Type ℓ} (d : A) (l : List A) → values (length l)
 values_own d l =
     ext_get_or d (values (length l) (λ k. get_or l k d)) l (values-length (λ k. get_or l k d) (length l))
     (λ k h. values_at (λ k. get_or l k d) (length l) k d (omega (arith, values-length (λ k. get_or l k d) (length l))))
-
--- those of its first n
-pub values-take {ℓ} : {A : Type ℓ} (d : A) (n : ℕ) (l : List A) → n ≤ length l → values n (λ k. get_or l k d) ≡ take n l
-values-take d n l h =
-    values_ext n (λ k. get_or l k d) (λ k. get_or (take n l) k d) d (λ k b. sym (get_or-take n l k d b))
-    ∙ ap (λ (k : ℕ). values k (λ i. get_or (take n l) i d)) (sym (length-take-le n l h)) ∙ values_own d (take n l)
 
 -- a function of each value
 map_from {ℓ ℓ'} : {A : Type ℓ} {B : Type ℓ'} (h : A → B) (i n : ℕ) (f : ℕ → A) → map h (values_from i n f) ≡ values_from i n (λ k. h (f k))

@@ -3,9 +3,11 @@ pub mod BestSymbol
 pub mod Turns
 pub mod PeeledOrder
 pub mod Peelable
+pub mod EdgeLists
 pub mod PeeledCode
 pub mod Counts
 pub mod Learnt
 pub mod State
 pub mod Recoded
 pub mod Theorem
+pub mod OneUnknown

@@ -21,10 +21,10 @@ use Rattle.lists.proofs.Values.{values-length, values_at}
 use Rattle.graph.specs.declared.Code.{Code}
 use Rattle.elimination.specs.Held.{held}
 use Rattle.graph.specs.Parts.{Parts, places}
-use Rattle.lent.specs.Sound.{Sound}
+use Rattle.lent.specs.Sound.{IsSound}
 use Rattle.elimination.proofs.Held.{held_symbols}
 use Rattle.lent.proofs.Formed.{starts_end, lists_hold}
-use Rattle.lent.proofs.Sound.{sound_encodable}
+use Rattle.lent.proofs.SoundCode.{sound_encodable}
 use Rattle.peeling.specs.Peelable.{symbols_in, edges_on, Checked, Peelable}
 use Rattle.peeling.specs.Peeling.{symbols_of}
 
@@ -37,7 +37,7 @@ pub symbols_held : (n m : ℕ) (var coef row : List ℕ) (c : ℕ) → c < m →
 unfolding symbols_of
 symbols_held = held_symbols
 
-module _ (c : Code) (p : Parts) (w : Sound c p) where
+module _ (c : Code) (p : Parts) (w : IsSound c p) where
   checked : Checked c.n c.m p.var p.row
   checked =
       let e = sound_encodable c p w in
@@ -121,7 +121,7 @@ module _ (c : Code) (p : Parts) (w : Sound c p) where
       w.formed.once i s t l (omega (arith, a')) (omega (arith, b')) (sym (values_at f k s 0 a') ∙ q ∙ values_at f k t 0 b'))
       v
 
-pub peelable : (c : Code) (p : Parts) → Sound c p → Peelable c.n c.m p.var p.row p.start p.col
+pub peelable : (c : Code) (p : Parts) → IsSound c p → Peelable c.n c.m p.var p.row p.start p.col
 peelable c p w = record {
   checks = checked c p w;
   start_long = w.fits.parts.start;

@@ -12,22 +12,20 @@ use Rattle.lists.specs.EachOnce.{EachOnce}
 use Rattle.lists.specs.Entry.{nth}
 use Rattle.lists.proofs.Values.{values_at}
 use Rattle.calls.specs.Parts.{padded}
-use Rattle.calls.specs.Refusal.{misfit}
-use Rattle.calls.proofs.Refusal.{pass, one_fail, one_miss, one_none}
+use Rattle.calls.proofs.Refusals.{one_fail, one_miss, one_none}
 use Rattle.graph.specs.declared.Code.{Code}
 use Rattle.elimination.specs.Elimination.{State, reduced, infos, table}
 use Rattle.elimination.specs.Graph.{Graph}
 use Rattle.elimination.specs.Held.{held}
 use Rattle.lent.specs.LentCode.{NotRefused}
-use Rattle.lent.specs.Malformed.{malformed, unused_hold}
+use Rattle.lent.specs.Malformed.{unused_hold}
 use Rattle.lent.specs.Misencoded.{graph_in}
 use Rattle.graph.specs.Parts.{Parts}
-use Rattle.graph.specs.Sizes.{too_large, code_lengths}
-use Rattle.lent.specs.Sound.{Fits, Formed, Encoded, Sound}
+use Rattle.lent.specs.Sound.{Fits, Formed, Encoded, IsSound}
 use Rattle.graph.proofs.Proper.{Proper, order_padded, order_each, infos_long, table_long, parity_padded, info_padded, table_padded}
 use Rattle.elimination.proofs.Reduced.{reduced_order}
 use Rattle.lent.proofs.Encoded.{formed_inside}
-use Rattle.lent.proofs.Sound.{sound}
+use Rattle.lent.proofs.SoundCode.{accepted, sound}
 use Rattle.lent.proofs.SoundPasses.{sound_passes}
 use Rattle.words.specs.Encoding.{encoding, info_symbols}
 use Rattle.words.specs.Word.{Symbols}
@@ -38,15 +36,6 @@ use Rattle.peeling.proofs.PeeledOrder.{order_length, order_once}
 use Rattle.lent.proofs.SoundProper.{sound_proper}
 use Rattle.peeling.proofs.Turns.{picks_inside, picks_distinct}
 
--- of a code that is not refused, no unused entry is other than 0
-unused_passed : (c : Code) (p : Parts) → NotRefused c p → unused_hold c p ≡ false
-unfolding malformed
-unused_passed c p r =
-    let large = pass (too_large c.n c.m) 1 _ r in
-    let short = pass (misfit (code_lengths p)) 2 _ large.1 in
-    let bad = pass (malformed c p) 5 _ short.1 in
-    (one_fail _ bad.0).1.1.1.1.1.1.1.0
-
 module _ (c : Code) (p : Parts) (r : NotRefused c p) (order : List ℕ) (long : length order ≡ c.n) (each : EachOnce c.n (nth order)) where
   abbrev g : Graph
   g = graph_in c p
@@ -54,7 +43,7 @@ module _ (c : Code) (p : Parts) (r : NotRefused c p) (order : List ℕ) (long : 
   abbrev s : State
   s = reduced g order
 
-  w : Sound c p
+  w : IsSound c p
   w = sound c p r
 
   ok : Proper g
@@ -117,7 +106,7 @@ module _ (c : Code) (p : Parts) (r : NotRefused c p) (order : List ℕ) (long : 
   unused : unused_hold (code_in c p order) (parts_in c p order) ≡ false
   unfolding unused_hold code_in parts_in held
   unused =
-      let u = one_fail _ (unused_passed c p r) in
+      let u = one_fail _ (accepted c p r).unused in
       sym
       (one_miss _ refl u.0
       (one_miss _ refl u.1.0
@@ -139,7 +128,7 @@ module _ (c : Code) (p : Parts) (r : NotRefused c p) (order : List ℕ) (long : 
 
 -- ---- in the order that peeling gives
 
-module _ (last : Bool) (c : Code) (p : Parts) (prefer : List ℤ) (w : Sound c p) where
+module _ (last : Bool) (c : Code) (p : Parts) (prefer : List ℤ) (w : IsSound c p) where
   below : (t : ℕ) → t < length (picks_of last (graph_in c p) prefer) → nth (picks_of last (graph_in c p) prefer) t < c.n
   unfolding held
   below = picks_inside last (graph_in c p) prefer (formed_inside c p w.formed)

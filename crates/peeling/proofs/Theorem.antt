@@ -18,7 +18,7 @@ use Rattle.graph.specs.Parts.{Parts}
 use Rattle.lent.specs.LentCode.{NotRefused}
 use Rattle.lent.specs.Misencoded.{graph_in}
 use Rattle.lent.proofs.Encoded.{formed_inside}
-use Rattle.lent.proofs.Sound.{sound}
+use Rattle.lent.proofs.SoundCode.{sound}
 use Rattle.words.specs.Encoding.{encoding, info_symbols}
 use Rattle.words.specs.Word.{Symbols}
 use Rattle.peeling.specs.Peeling.{Known, freed, pick_of, peeled, picks_of}

@@ -1,6 +1,7 @@
 pub mod Best
 pub mod Peeling
 pub mod Peelable
+pub mod EdgeLists
 pub mod PeeledOrder
 pub mod PeelPicks
 pub mod WithPeeledInfo

@@ -1,4 +1,4 @@
--- What peeling may be run on: parts of the right lengths with the edges of a graph, listed by check and by variable. Ours; only contracts of private functions cite it.
+-- What peeling may be run on: parts of the right lengths with the edges of a graph, listed by check and by variable. Ours; it is the ghost field of `Edges`, and no public call's contract cites it.
 -- Assumes nothing.
 use Rattle.std.specs.Prelude.{ℕ, ◌+◌, ◌-◌, ◌<◌, ◌≤◌, ◌≡◌, ◌&&◌, List, leb, ltb, length}
 use Rattle.lists.specs.Entry.{nth}

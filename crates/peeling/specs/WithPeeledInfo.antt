@@ -1,15 +1,13 @@
 -- The call with_peeled_info: the lent code in the column order that peeling gives, its graph as it was. Document 01, part 2; nb.rs, `with_peeled_info`.
 -- Assumes nothing.
 use Rattle.std.specs.Prelude.{ℕ, Bool, List, [], ◌∷◌, ℤ, length}
-use Rattle.calls.specs.Refusal.{refusal, misfit}
-use Rattle.calls.specs.Parts.{answered, written}
+use Rattle.calls.specs.declared.Refusal.{Refusal}
+use Rattle.calls.specs.Refusal.{misfit}
 use Rattle.graph.specs.declared.Code.{Code}
-use Rattle.graph.specs.declared.NewCode.{NewCode}
-use Rattle.graph.specs.declared.NewCode.TheVariants.{Built, Refused}
 use Rattle.elimination.specs.Elimination.{reduced}
 use Rattle.graph.specs.Parts.{Parts, ordered}
 use Rattle.lent.specs.Misencoded.{graph_in}
-use Rattle.lent.specs.LentCode.{MatrixWork, matrix_left, refusals}
+use Rattle.lent.specs.LentCode.{code_refusals}
 use Rattle.peeling.specs.Best.{last_of_equal}
 use Rattle.peeling.specs.Peeling.{picks_of}
 use Rattle.peeling.specs.PeeledOrder.{peeled_order}
@@ -25,17 +23,13 @@ code_in c p order = record { n = c.n; m = c.m; edges = c.edges; rank = (reduced 
 unfoldable pub parts_in : Code → Parts → List ℕ → Parts
 parts_in c p order = ordered (graph_in c p) order p
 
-pub record Recoded : Type 0 where
-  pub answer : NewCode
-  pub code : Parts
-  pub work : MatrixWork
+-- by which refusals the call is turned down; h and pivots are the work parts' lengths
+abbrev pub peeled_refusals : Code → Parts → List ℤ → ℕ → ℕ → List (Bool × Refusal)
+peeled_refusals c p prefer h pivots = code_refusals c p h pivots (misfit ((length prefer, c.n) ∷ []))
 
-unfoldable pub with_peeled_info : Code → Parts → List ℤ → MatrixWork → Recoded
-with_peeled_info c p prefer work =
-    let k = refusal (refusals c p work (misfit ((length prefer, c.n) ∷ []))) in
-    let order = order_of last_of_equal c p prefer in
-    record {
-      answer = answered k Refused (Built (code_in c p order));
-      code = written k p (parts_in c p order);
-      work = matrix_left k work;
-    }
+-- the code in the order by the last of equal picks
+abbrev pub peeled_code : Code → Parts → List ℤ → Code
+peeled_code c p prefer = code_in c p (order_of last_of_equal c p prefer)
+
+abbrev pub peeled_parts : Code → Parts → List ℤ → Parts
+peeled_parts c p prefer = parts_in c p (order_of last_of_equal c p prefer)

@@ -6,10 +6,10 @@ ghost use Rattle.elimination.specs.Elimination.{reduced, infos, table};
 ghost use Rattle.elimination.specs.Encodable.{Encodable};
 ghost use Rattle.elimination.specs.Held.{held};
 
-use calls::clear::{clear_u8, clear_u16};
 use elimination::encoder::build_encoder;
 
 // Parity, information and table as elimination gives them, in the place of what stood there. Answers the rank. The matrix is left 0.
+// No plainer: three of the parts are written over, and a `Lent` only reads.
 pub fn recode(
     n: usize,
     m: usize,
@@ -30,10 +30,10 @@ pub fn recode(
         × (a.new ≡ padded 16384 0 (table n (reduced (held n m var.now coef.now row.now) order.now)))
         × (h.new ≡ replicate (length h.old) 0) }
 {
-    clear_u16(parity);
-    clear_u16(info);
-    clear_u8(a);
+    parity.fill(0);
+    info.fill(0);
+    a.fill(0);
     let rank = build_encoder(n, m, var, coef, row, order, h, parity, info, a);
-    clear_u8(h);
+    h.fill(0);
     rank
 }

@@ -1,102 +1,52 @@
 // The digest of a part: from 0 on, d becomes (17 d + (entry mod 65521) + 1) mod 65521.
-ghost use Rattle.std.specs.Prelude.{◌<◌};
+ghost use Rattle.std.specs.Prelude.{◌≡◌, map};
+ghost use Rattle.replay.specs.Digest.{digested, digest_of};
+ghost use Rattle.replay.specs.Work.{as_lent, as_cleared};
 
-// Of work parts of 65,536 and of 256 entries, where every entry is 0 and where every entry is 1.
-const ZEROS_65536: u64 = 47543;
+use crate::number::Number;
 
-const ZEROS_256: u64 = 20541;
-
-const ONES_65536: u64 = 29565;
-
-const ONES_256: u64 = 41082;
-
-// Of the 50,176 floats of `vectors`, where every entry is 0.0 and where every entry is 1.0.
-const ZEROS_50176: u64 = 18731;
-
-const ONES_50176: u64 = 47903;
-
-// The bits that stand for a NaN, whose own are not read. No other float has them.
-const NAN: u32 = 0x7FC0_0000;
-
-// Of a work part of 65,536 entries after a call that answers the number. Before it every entry is 1: 2 and 3 leave it so, the others make it 0.
-pub fn large_work(number: u64) -> u64 {
-    if is_untouched(number) {
-        ONES_65536
-    } else {
-        ZEROS_65536
-    }
-}
-
-// Of one of 256 entries.
-pub fn small_work(number: u64) -> u64 {
-    if is_untouched(number) {
-        ONES_256
-    } else {
-        ZEROS_256
-    }
-}
-
-// Of `vectors`.
-pub fn vectors(number: u64) -> u64 {
-    if is_untouched(number) {
-        ONES_50176
-    } else {
-        ZEROS_50176
-    }
-}
-
-fn is_untouched(number: u64) -> bool {
-    (number == 2) | (number == 3)
+pub fn digest<T: Number>(part: &[T]) -> u16
+    ensures { result ≡ digest_of (map T.number part.now) }
+{
+    part.iter().map(|x| x.number()).fold(0, digested)
 }
 
 // A digest with one more entry.
-fn digested(d: u64, entry: u64) -> u64
-    requires { d < 65521 }
-    ensures { result < 65521 }
+fn digested(d: u16, entry: u64) -> u16
+    ensures { result ≡ digested d entry }
 {
-    (17 * d + entry % 65521 + 1) % 65521
+    ((17 * u64::from(d) + entry % 65521 + 1) % 65521) as u16
 }
 
-pub fn of_u8(part: &[u8]) -> u64 {
-    let mut d = 0;
-    let mut i = 0;
-    while i < part.len() {
-        d = digested(d, part[i] as u64);
-        i += 1;
+// The kinds of work parts: those of 65,536 and of 256 entries, and the 50,176 floats of `vectors`. Every entry of one that is lent is 1.
+#[derive(Clone, Copy)]
+pub enum WorkKind {
+    Large,
+    Small,
+    Vectors,
+}
+
+// What the digest of such a part should be stands here as a number, so a digest that goes wrong differs from it.
+impl WorkKind {
+    // Of a part as it is lent. No plainer: this and `cleared` are tables of numbers, and one function for both would take a flag that says which.
+    pub fn lent(self) -> u64
+        ensures { result ≡ digest_of (as_lent self) }
+    {
+        match self {
+            WorkKind::Large => 29565,
+            WorkKind::Small => 41082,
+            WorkKind::Vectors => 47903,
+        }
     }
-    d
-}
 
-pub fn of_u16(part: &[u16]) -> u64 {
-    let mut d = 0;
-    let mut i = 0;
-    while i < part.len() {
-        d = digested(d, part[i] as u64);
-        i += 1;
+    // Of one that a call has cleared.
+    pub fn cleared(self) -> u64
+        ensures { result ≡ digest_of (as_cleared self) }
+    {
+        match self {
+            WorkKind::Large => 47543,
+            WorkKind::Small => 20541,
+            WorkKind::Vectors => 18731,
+        }
     }
-    d
-}
-
-pub fn of_usize(part: &[usize]) -> u64 {
-    let mut d = 0;
-    let mut i = 0;
-    while i < part.len() {
-        d = digested(d, part[i] as u64);
-        i += 1;
-    }
-    d
-}
-
-pub fn of_f32(part: &[f32]) -> u64 {
-    let mut d = 0;
-    let mut i = 0;
-    while i < part.len() {
-        d = digested(d, bits(part[i]) as u64);
-        i += 1;
-    }
-    d
-}
-
-fn bits(x: f32) -> u32 {
-    if x == x { f32::to_bits(x) } else { NAN }
 }

@@ -1,80 +1,71 @@
-// The field's calls, each made with the numbers of a line. A line with too few or too many numbers, or with an argument out of range, is not
-// understood. Parts are written `[0..2]`, since the length of a part `[..2]` would need a proof file.
-ghost use Rattle.std.specs.Prelude.{◌≡◌, ◌+◌, length};
+// The calls of the field, each made with the arguments of a case.
+ghost use Rattle.std.specs.Prelude.{◌≡◌, ◌<◌, ◌≤◌, ◌∷◌, [], ℕ, List, IfOk, IsErrOf, map, slice_index};
+ghost use Rattle.field.specs.Field.{product, inverse};
+ghost use Rattle.field.specs.SplitMix64.{drawn};
+ghost use Rattle.replay.specs.Answers.{draws_found};
 
-use crate::cases::{Call, Outcome};
-use crate::compare;
+use crate::answers::{Answers, Found, Label};
+use crate::case::CaseError;
+use crate::fields::Fields;
+use crate::given;
+use field::gf;
 use field::splitmix64::SplitMix64;
-use field::{gf, splitmix64};
+use std::alloc::{AllocError, Global};
 
 // mul A B PRODUCT
-pub fn mul(rt: &HostRuntime, name: &[u8], line: u64, numbers: &[u64]) -> Outcome {
-    if numbers.len() != 3 {
-        return Outcome::Misread;
-    }
-    let a = numbers[0];
-    let b = numbers[1];
-    if a > 31 {
-        return Outcome::Misread;
-    }
-    if b > 31 {
-        return Outcome::Misread;
-    }
-    let ours = gf::mul(a as u8, b as u8) as u64;
-    compare::compare_one(rt, name, line, Call::Mul, &numbers[0..2], ours, numbers[2])
+pub fn mul(alloc: Global, fields: &mut Fields<'_>) -> Result<Answers, CaseError>
+    ensures product { let a = slice_index fields.old.rest.now 0 in let b = slice_index fields.old.rest.now 1 in
+        IfOk result (λ r. map (λ f. f.ours) r.found.items ≡ product a b ∷ []) }
+    ensures misread { IsErrOf result CaseError.NotUnderstood → (a b : ℕ) (rest : List ℕ) → fields.old.rest.now ≡ a ∷ b ∷ rest → a ≤ 31 → 31 < b }
+{
+    let a = fields.between(0, 31)? as u8;
+    let b = fields.between(0, 31)? as u8;
+    Ok(only(alloc, gf::mul(a, b))?)
 }
 
 // inv A INVERSE
-pub fn inv(rt: &HostRuntime, name: &[u8], line: u64, numbers: &[u64]) -> Outcome {
-    if numbers.len() != 2 {
-        return Outcome::Misread;
-    }
-    let a = numbers[0];
-    if a == 0 {
-        return Outcome::Misread;
-    }
-    if a > 31 {
-        return Outcome::Misread;
-    }
-    let ours = gf::inv(a as u8) as u64;
-    compare::compare_one(rt, name, line, Call::Inv, &numbers[0..1], ours, numbers[1])
+pub fn inv(alloc: Global, fields: &mut Fields<'_>) -> Result<Answers, CaseError>
+    ensures inverse { IfOk result (λ r. map (λ f. f.ours) r.found.items ≡ inverse (slice_index fields.old.rest.now 0) ∷ []) }
+    ensures misread { IsErrOf result CaseError.NotUnderstood → (a : ℕ) (rest : List ℕ) → fields.old.rest.now ≡ a ∷ rest → 0 < a → 31 < a }
+{
+    let a = fields.between(1, 31)? as u8;
+    Ok(only(alloc, gf::inv(a))?)
+}
+
+fn only(alloc: Global, ours: u8) -> Result<Answers, AllocError>
+    ensures { IfOk result (λ r. map (λ f. f.ours) r.found.items ≡ ours ∷ []) }
+{
+    let found = Found {
+        label: Label::Only,
+        ours: u64::from(ours),
+    };
+    Answers::new(alloc, &[found], &[])
 }
 
 // draws SEED COUNT D1 .. DCOUNT
-pub fn draws(rt: &HostRuntime, name: &[u8], line: u64, numbers: &[u64]) -> Outcome {
+pub fn draws(alloc: Global, fields: &mut Fields<'_>) -> Result<Answers, CaseError>
+    ensures draws { let seed = slice_index fields.old.rest.now 0 in let count = slice_index fields.old.rest.now 1 in
+        IfOk result (λ r. r.found.items ≡ draws_found (drawn count seed)) }
+    ensures misread { IsErrOf result CaseError.NotUnderstood → (seed count : ℕ) (rest : List ℕ) → fields.old.rest.now ≡ seed ∷ count ∷ rest → 1 ≤ count → 16 < count }
+{
+    let state = fields.next()?;
     // With no draw there is nothing to compare.
-    if numbers.len() < 3 {
-        return Outcome::Misread;
-    }
-    let n = numbers.len() - 2;
-    if n > 16 {
-        return Outcome::Misread;
-    }
-    if numbers[1] != n as u64 {
-        return Outcome::Misread;
-    }
-    let mut ours = [0u64; 16];
-    compare_draws(rt, name, line, numbers, &mut ours[0..n])
+    let count = fields.between(1, 16)? as usize;
+    let draws = given::draws(alloc, &mut SplitMix64 { state }, count)?;
+    Ok(Answers {
+        found: labelled(alloc, &draws)?,
+        work: Vec::new(alloc),
+    })
 }
 
-// As many draws as `ours` has entries, which the list has after the seed and the count.
-fn compare_draws(
-    rt: &HostRuntime,
-    name: &[u8],
-    line: u64,
-    numbers: &[u64],
-    ours: &mut [u64],
-) -> Outcome
-    requires { length numbers.now ≡ length ours.old + 2 }
+fn labelled(alloc: Global, draws: &[u64]) -> Result<Vec<Found>, AllocError>
+    ensures { IfOk result (λ v. v.items ≡ draws_found draws.now) }
 {
-    splitmix64::draws(SplitMix64 { state: numbers[0] }, ours);
-    compare::compare_all(
-        rt,
-        name,
-        line,
-        Call::Draws,
-        &numbers[0..2],
-        ours,
-        &numbers[2..],
-    )
+    (1..17)
+        .zip(draws)
+        .map(|(place, ours)| Found {
+            label: Label::Draw(place),
+            ours: *ours,
+        })
+        .collect(alloc)
 }

@@ -1,6 +1,13 @@
-// Counts the cases of a list, those that differ, and the lines that are not understood. A file has fewer than 2^64 lines, so no count wraps.
-use crate::cases::{Ask, CALLS, Call};
-use crate::{cases, print};
+// Counts the cases of each call, those that differ, and the lines that are not understood.
+ghost use Rattle.std.specs.Prelude.{◌≡◌, Some, OnOk, OnErr};
+ghost use Rattle.std.specs.BTreeMap.{get, Updates, IsUnchanged};
+ghost use Rattle.std.specs.Option.{unwrap_or};
+ghost use Rattle.replay.specs.Tally.{none, more, counted};
+
+use std::alloc::{AllocError, Global};
+use std::collections::BTreeMap;
+use std::fmt::Display;
+use std::io;
 
 #[derive(Clone, Copy)]
 pub struct Count {
@@ -8,87 +15,65 @@ pub struct Count {
     pub differ: u64,
 }
 
-// `all` counts the cases of all calls together.
-#[derive(Clone, Copy)]
-pub struct Tally {
-    pub counts: [Count; CALLS],
-    pub all: u64,
+#[derive(Drop)]
+pub struct Tally<K: Ord> {
+    pub counts: BTreeMap<K, Count>,
     pub misread: u64,
 }
 
-impl Tally {
-    pub fn new() -> Self {
-        let none = Count {
-            cases: 0,
-            differ: 0,
-        };
+impl<K: Ord + Copy + Display> Tally<K> {
+    pub fn new(alloc: Global) -> Self {
         Tally {
-            counts: [none; CALLS],
-            all: 0,
+            counts: BTreeMap::new(alloc),
             misread: 0,
         }
     }
 
-    // `differ` is 1 where the case differs, else 0.
-    pub fn with_case(mut self, call: Call, differ: u64) -> Self {
-        let k = cases::index(call);
-        let c = self.counts[k];
-        self.counts[k] = Count {
-            cases: more(c.cases, 1),
-            differ: more(c.differ, differ),
+    pub fn count(&self, call: K) -> Count
+        ensures { result ≡ unwrap_or (get K.cmp self.now.counts call) none }
+    {
+        let none = Count {
+            cases: 0,
+            differ: 0,
         };
-        self.all = more(self.all, 1);
-        self
+        self.counts.get(&call).copied().unwrap_or(none)
     }
 
-    pub fn with_misread(mut self) -> Self {
-        self.misread = more(self.misread, 1);
-        self
+    // No plainer: `is_same` is what is counted, and both counts go on by one call of it.
+    pub fn count_case(&mut self, call: K, is_same: bool) -> Result<(), AllocError>
+        ensures ok { OnOk result (Updates K.cmp self.old.counts self.new.counts call
+            (Some (counted is_same (unwrap_or (get K.cmp self.old.counts call) none)))) }
+        ensures err { OnErr result (IsUnchanged self.old.counts self.new.counts) }
+        ensures misread_stays { self.new.misread ≡ self.old.misread }
+    {
+        let mut count = self.count(call);
+        count.cases = count.cases.saturating_add(1);
+        if !is_same {
+            count.differ = count.differ.saturating_add(1);
+        }
+        self.counts.insert(call, count)?;
+        Ok(())
     }
-}
 
-pub fn more(n: u64, by: u64) -> u64 {
-    std::num::wrapping_add_u64(n, by)
-}
-
-pub fn print_tally(rt: &HostRuntime, name: &[u8], t: Tally) {
-    print_count(rt, name, t, Call::Mul);
-    print_count(rt, name, t, Call::Inv);
-    print_count(rt, name, t, Call::Draws);
-    print_count(rt, name, t, Call::EvenDegrees);
-    print_count(rt, name, t, Call::New);
-    print_count(rt, name, t, Call::OnCode(Ask::Encode));
-    print_count(rt, name, t, Call::OnCode(Ask::InfoOf));
-    print_count(rt, name, t, Call::OnCode(Ask::ChecksOk));
-    print_count(rt, name, t, Call::OnCode(Ask::Degree));
-    print_count(rt, name, t, Call::OnCode(Ask::K));
-    print_count(rt, name, t, Call::OnCode(Ask::N));
-    print_count(rt, name, t, Call::OnCode(Ask::InfoPositions));
-    print_count(rt, name, t, Call::OnCode(Ask::PeelPicks));
-    print_count(rt, name, t, Call::WithPeeledInfo);
-    print_count(rt, name, t, Call::DecodeSoft);
-    print_count(rt, name, t, Call::Decode);
-    print_count(rt, name, t, Call::OnCode(Ask::ListDecode));
-    if t.all == 0 {
-        print::about(rt, name, b": no case\n");
+    pub fn count_misread(&mut self)
+        ensures misread { self.new.misread ≡ more self.old.misread }
+        ensures counts_stay { self.new.counts ≡ self.old.counts }
+    {
+        self.misread = self.misread.saturating_add(1);
     }
-    print::about(rt, name, b": ");
-    print::number(rt, t.misread);
-    print::text(rt, b" lines not understood\n");
-}
 
-// A call that the list does not name has no line, so a call that goes missing from a list, or comes into one, changes what is printed.
-fn print_count(rt: &HostRuntime, name: &[u8], t: Tally, call: Call) {
-    let k = cases::index(call);
-    let c = t.counts[k];
-    if c.cases == 0 {
-        return;
+    // A call that the list does not name has no line, so a call that goes missing from a list, or comes into one, changes what is printed.
+    // No plainer: each line begins with the list's name, which a tally does not hold.
+    pub fn print(&self, rt: &impl Print, name: &str) -> io::Result<()> {
+        for (call, count) in &self.counts {
+            let cases = count.cases;
+            let differ = count.differ;
+            println!(rt; "{name} {call}: {cases} cases, {differ} differ")?;
+        }
+        if self.counts.is_empty() {
+            println!(rt; "{name}: no case")?;
+        }
+        let misread = self.misread;
+        println!(rt; "{name}: {misread} lines not understood")
     }
-    print::about(rt, name, b" ");
-    cases::print_name(rt, call);
-    print::text(rt, b": ");
-    print::number(rt, c.cases);
-    print::text(rt, b" cases, ");
-    print::number(rt, c.differ);
-    print::text(rt, b" differ\n");
 }

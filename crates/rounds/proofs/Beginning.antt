@@ -21,31 +21,31 @@ use Rattle.rounds.specs.Work.{vectors_length, Wrote, to_check_at, post_at}
 use Rattle.rounds.specs.Holds.{Begun}
 use Rattle.rounds.specs.Ready.{Ends}
 
-module _ (n edges k known : ℕ) (var info : List ℕ) (metrics : List Float) (small : n ≤ 256) (y : Ends n edges var) (few : known ≤ k) (w₀ w₁ w₂ w₃ w₄ : List Float)
+module _ (n edges k known : ℕ) (var info past : List ℕ) (past-long : length past ≡ k - known) (own : (t : ℕ) → t < k - known → nth past t ≡ nth info (known + t)) (metrics : List Float) (small : n ≤ 256) (y : Ends n edges var) (few : known ≤ k) (w₀ w₁ w₂ w₃ w₄ : List Float)
     (long : length w₀ ≡ vectors_length) (a : Wrote n (λ v. v) (λ v. channel (vector metrics v)) w₀ w₁)
-    (b : Wrote (k - known) (λ t. nth info (known + t)) (λ _. known_zero) w₁ w₂) (c : Wrote edges to_check_at (λ e. vector w₂ (nth var e)) w₂ w₃)
+    (b : Wrote (length past) (nth past) (λ _. known_zero) w₁ w₂) (c : Wrote edges to_check_at (λ e. vector w₂ (nth var e)) w₂ w₃)
     (d : Wrote n post_at (λ _. replicate 32 zero32) w₃ w₄) where
   abbrev positions : List ℕ
   positions = values k (nth info)
 
   -- the positions past the known count, as the definition has them
-  count : length positions - known ≡ k - known
-  count = ap (λ (i : ℕ). i - known) (values-length (nth info) k)
+  count : length positions - known ≡ length past
+  count = ap (λ (i : ℕ). i - known) (values-length (nth info) k) ∙ sym past-long
 
-  at : (t : ℕ) → t < k - known → nth positions (known + t) ≡ nth info (known + t)
-  at t h = values_at (nth info) k (known + t) 0 (omega arith)
+  at : (t : ℕ) → t < length past → nth positions (known + t) ≡ nth past t
+  at t h = let l : t < k - known = omega (arith, past-long) in values_at (nth info) k (known + t) 0 (omega arith) ∙ sym (own t l)
 
   channel₂ : (v : ℕ) → v < n → vector w₂ v ≡ channels positions metrics known v
   unfolding channels past_known
-  channel₂ v h = go (among_or_not (k - known) (λ t. nth info (known + t)) v)
+  channel₂ v h = go (among_or_not (length past) (nth past) v)
     where
-      go : ((t : ℕ) × (t < k - known) × (nth info (known + t) ≡ v)) ⊎ ((t : ℕ) → t < k - known → nth info (known + t) ≢ v) → vector w₂ v ≡ channels positions metrics known v
+      go : ((t : ℕ) × (t < length past) × (nth past t ≡ v)) ⊎ ((t : ℕ) → t < length past → nth past t ≢ v) → vector w₂ v ≡ channels positions metrics known v
       go (inl (t, l, e)) =
           ap (vector w₂) (sym e) ∙ b.here t l
           ∙ sym (pick-true _ _ _ (true-among (length positions - known) (λ t. nth positions (known + t)) v t (omega (arith, count)) (at t l ∙ e)))
       go (inr q) =
           b.else v q ∙ a.here v h
-          ∙ sym (pick-false _ _ _ (false-among (length positions - known) (λ t. nth positions (known + t)) v (λ t l e. let g : t < k - known = omega (arith, count) in q t g (sym (at t g) ∙ e))))
+          ∙ sym (pick-false _ _ _ (false-among (length positions - known) (λ t. nth positions (known + t)) v (λ t l e. let g : t < length past = omega (arith, count) in q t g (sym (at t g) ∙ e))))
 
   pub begun : Begun n edges var (channels positions metrics known) w₄
   begun = record {

@@ -3,8 +3,10 @@ pub mod Lengths
 pub mod Alike
 pub mod VariableLists
 pub mod CheckMessages
+pub mod ReadyCode
 pub mod RoundMade
 pub mod Beginning
 pub mod GoingOn
 pub mod FineRounds
 pub mod KnownRounds
+pub mod Filled

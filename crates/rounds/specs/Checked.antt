@@ -1,4 +1,4 @@
--- What one check's step is given and leaves in the work part. Ours; only contracts of private functions cite it.
+-- What one check's step is given and leaves in the work part. Ours; no public call's contract cites it.
 -- Assumes nothing.
 use Rattle.std.specs.Prelude.{ℕ, ◌+◌, ◌-◌, ◌<◌, ◌≤◌, ◌≡◌, ◌⊎◌, List, Float, length}
 use Rattle.lists.specs.Entry.{nth}

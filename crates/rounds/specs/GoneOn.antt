@@ -1,4 +1,4 @@
--- What going on from a state leaves. Ours; only contracts of private functions cite it.
+-- What going on from a state leaves. Ours; no public call's contract cites it.
 -- Assumes nothing.
 use Rattle.std.specs.Prelude.{ℕ, ◌≡◌, true, List, leb, Float}
 use Rattle.rounds.specs.declared.rounds.Ended.{Ended}

@@ -1,4 +1,4 @@
--- How the work part of vectors holds a state: before the first round, and after one. Ours; only contracts of private functions cite it.
+-- How the work part of vectors holds a state: before the first round, and after one. Ours; no public call's contract cites it.
 -- Assumes nothing.
 use Rattle.std.specs.Prelude.{ℕ, ◌<◌, ◌≡◌, List, Float, length, replicate}
 use Rattle.lists.specs.Entry.{nth}

@@ -1,4 +1,4 @@
--- What a variable's products are given: its list of places, from `lo` to `hi` in `col`, and its channel vector. Ours; only contracts of private functions cite it.
+-- What a variable's products are given: its list of places, from `lo` to `hi` in `col`, and its channel vector. Ours; no public call's contract cites it.
 -- Assumes nothing.
 use Rattle.std.specs.Prelude.{ℕ, ◌+◌, ◌<◌, ◌≤◌, ◌≡◌, List, Float, length}
 use Rattle.lists.specs.Entry.{nth}

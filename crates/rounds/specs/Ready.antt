@@ -1,4 +1,4 @@
--- What rounds may be made on: a Tanner graph that fits its parts. Ours; only `requires` of private functions cite it.
+-- What rounds may be made on: a Tanner graph that fits its parts. Ours; it is the invariant of `TannerGraph`, and no public call's contract cites it.
 -- Assumes nothing.
 use Rattle.std.specs.Prelude.{ℕ, ◌+◌, ◌<◌, ◌≤◌, ◌≡◌, List, length}
 use Rattle.lists.specs.Entry.{nth}

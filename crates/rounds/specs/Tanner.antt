@@ -2,13 +2,13 @@
 -- nb.rs, `NbCode`'s `edges`, `row` and `col`.
 -- Assumes nothing.
 use Rattle.std.specs.Prelude.{ℕ, ◌+◌, ◌-◌, List, ltb}
-use Rattle.std.specs.Borrow.{Bor}
 use Rattle.lists.specs.Entry.{nth}
 use Rattle.lists.specs.Lowest.{lowest}
 use Rattle.elimination.specs.Graph.{Graph}
 use Rattle.elimination.specs.Held.{held}
 use Rattle.graph.specs.declared.Code.{Code}
 use Rattle.graph.specs.Parts.{Parts}
+use Rattle.lent.specs.Held.{Held}
 
 pub record Tanner : Type 0 where
   pub n : ℕ
@@ -20,14 +20,13 @@ pub record Tanner : Type 0 where
   pub start : List ℕ
   pub col : List ℕ
 
--- of what stands in lent parts
-abbrev pub lent_graph : ℕ → ℕ → ℕ → Bor (List ℕ) → Bor (List ℕ) → Bor (List ℕ) → Bor (List ℕ) → Bor (List ℕ) → Tanner
-lent_graph n m edges var coef row start col =
-    record { n = n; m = m; edges = edges; var = var.now; coef = coef.now; row = row.now; start = start.now; col = col.now }
-
 -- of a lent code
 abbrev pub tanner_in : Code → Parts → Tanner
 tanner_in c p = record { n = c.n; m = c.m; edges = c.edges; var = p.var; coef = p.coef; row = p.row; start = p.start; col = p.col }
+
+-- of a lent code as a value
+abbrev pub tanner_of : Held → Tanner
+tanner_of l = tanner_in l.code l.parts
 
 -- the graph that it is
 abbrev pub graph_of : Tanner → Graph

@@ -1,5 +1,5 @@
 -- The work part of vectors: five rows, 256 of the channel, 512 messages to checks, 512 from checks, 32 inputs of a check and 256 posteriors; and what a function has
--- written there. Ours; of it the calls' definitions cite the length, and contracts of private functions all.
+-- written there. Ours; of it the calls' definitions cite the length, and no public call's contract the rest.
 -- Assumes nothing.
 use Rattle.std.specs.Prelude.{ℕ, ◌+◌, ◌<◌, ◌≡◌, ◌≢◌, List, Float, length}
 use Rattle.vectors.specs.Vector.{Vector, vector}

@@ -20,6 +20,7 @@ fn begin_channel(n: usize, metrics: &[f32], w: &mut [f32])
     requires { (n ≤ 256) × (length metrics.now ≡ n * 32) × (length w.old ≡ vectors_length) }
     ensures { Wrote n (λ v. v) (λ v. channel (vector metrics.now v)) w.old w.new }
 {
+    // No plainer: v numbers the vectors of both parts.
     for v in 0..n {
         let m = load(metrics, v);
         let p = channel(m);
@@ -27,16 +28,16 @@ fn begin_channel(n: usize, metrics: &[f32], w: &mut [f32])
     }
 }
 
-// Known zeros, over what the metrics gave: the information positions from number `known` on, of k.
-fn begin_zeros(k: usize, known: usize, info: &[u16], w: &mut [f32])
-    requires known_le_k { (known ≤ k) × (k ≤ length info.now) × (length w.old ≡ vectors_length) }
-    requires by_index { (t : ℕ) → t < k → nth info.now t < 256 }
-    ensures { Wrote (k - known) (λ t. nth info.now (known + t)) (λ _. known_zero) w.old w.new }
+// Known zeros, over what the metrics gave: the information positions past the known ones.
+fn begin_zeros(past: &[u16], w: &mut [f32])
+    requires w_len { length w.old ≡ vectors_length }
+    requires by_index { (t : ℕ) → t < length past.now → nth past.now t < 256 }
+    ensures { Wrote (length past.now) (nth past.now) (λ _. known_zero) w.old w.new }
 {
     let mut zero = [0.0f32; 32];
     zero[0] = 1.0;
-    for t in known..k {
-        store(w, info[t] as usize, &zero);
+    for v in past {
+        store(w, *v as usize, &zero);
     }
 }
 
@@ -45,8 +46,8 @@ fn begin_messages(n: usize, edges: usize, var: &[u16], w: &mut [f32])
     requires { (n ≤ 256) × (Ends n edges var.now) × (length w.old ≡ vectors_length) }
     ensures { Wrote edges to_check_at (λ e. vector w.old (nth var.now e)) w.old w.new }
 {
-    for e in 0..edges {
-        let p = load(w, var[e] as usize);
+    for (e, v) in var[..edges].iter().enumerate() {
+        let p = load(w, *v as usize);
         store(w, TO_CHECKS + e, &p);
     }
 }
@@ -56,12 +57,11 @@ fn begin_posteriors(n: usize, w: &mut [f32])
     requires { (n ≤ 256) × (length w.old ≡ vectors_length) }
     ensures { Wrote n post_at (λ _. replicate 32 zero32) w.old w.new }
 {
-    let zero = [0.0f32; 32];
-    for v in 0..n {
-        store(w, POSTERIORS + v, &zero);
-    }
+    let from = POSTERIORS * 32;
+    w[from..from + n * 32].fill(0.0);
 }
 
+// The state before the first round, in the work part. The C interface: var and info are lent parts, of which `edges` and k entries count.
 pub fn begin(
     n: usize,
     edges: usize,
@@ -78,7 +78,7 @@ pub fn begin(
     ensures { Begun n edges var.now (channels (values k (nth info.now)) metrics.now known) w.new }
 {
     begin_channel(n, metrics, w);
-    begin_zeros(k, known, info, w);
+    begin_zeros(&info[known..k], w);
     begin_messages(n, edges, var, w);
     begin_posteriors(n, w);
 }

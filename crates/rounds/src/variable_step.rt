@@ -15,22 +15,22 @@ pub fn gather(col: &[u16], lo: usize, hi: usize, v: usize, w: &[f32]) -> [f32; 3
     ensures { result ≡ gathered (hi - lo) (λ j. nth col.now (lo + j)) (from_checks w.now) (vector w.now v) }
 {
     let mut p = load(w, v);
-    for j in 0..hi - lo {
-        let from = load(w, FROM_CHECKS + col[lo + j] as usize);
+    for place in &col[lo..hi] {
+        let from = load(w, FROM_CHECKS + *place as usize);
         let next = multiply(p, &from);
         p = next;
     }
     p
 }
 
-// The same without the message at place e.
+// The same without the message at place e. No plainer as one with `gather`, which has no branch: each has its own definition.
 pub fn gather_without(e: usize, col: &[u16], lo: usize, hi: usize, v: usize, w: &[f32]) -> [f32; 32]
     requires { Listed col.now lo hi v w.now }
     ensures { result ≡ gathered_without e (hi - lo) (λ j. nth col.now (lo + j)) (from_checks w.now) (vector w.now v) }
 {
     let mut p = load(w, v);
-    for j in 0..hi - lo {
-        let place = col[lo + j] as usize;
+    for place in &col[lo..hi] {
+        let place = *place as usize;
         if place != e {
             let from = load(w, FROM_CHECKS + place);
             let next = multiply(p, &from);

@@ -12,7 +12,7 @@ use Rattle.vectors.specs.Float32.{zero32, one32, uniform32}
 use Rattle.vectors.specs.Vector.{Vector, at, entry_product}
 use Rattle.vectors.specs.Normalized.{entry_sum, scaled, normalized}
 use Rattle.vectors.specs.Wht.{butterflies, wht}
-use Rattle.vectors.specs.Multiplied.{permuted, raised, read_back}
+use Rattle.vectors.specs.Multiplied.{permuted}
 use Rattle.vectors.specs.Channel.{channel}
 
 pub product_length : (p q : Vector) → length (entry_product p q) ≡ 32
@@ -39,10 +39,6 @@ wht-length a e = butterflies-length 16 _ (butterflies-length 8 _ (butterflies-le
 pub permuted-length : (h : ℕ) (p : Vector) → length (permuted h p) ≡ 32
 unfolding permuted
 permuted-length h p = iter_keeps (λ _ (t : Vector). length t ≡ 32) 32 (λ x t. set t (product h x) (at p x)) _ (length-replicate 32 zero32) (λ x l t d. simp length-set d)
-
-pub read_back-length : (h : ℕ) (p : Vector) → length (read_back h p) ≡ 32
-unfolding read_back
-read_back-length h p = values-length (λ x. raised (at p (product h x))) 32
 
 pub channel-length : (m : Vector) → length (channel m) ≡ 32
 unfolding channel

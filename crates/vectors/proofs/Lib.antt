@@ -1,7 +1,6 @@
 pub mod Stored
 pub mod Lengths
 pub mod HalvesWht
-pub mod ProductsTable
 pub mod FloatOrder
 pub mod FiniteFloats
 pub mod FineFloats
@@ -9,3 +8,5 @@ pub mod FineVectors
 pub mod ChannelFine
 pub mod KnownZero
 pub mod LikeliestTwo
+pub mod Places
+pub mod Filled

@@ -4,7 +4,6 @@ pub mod Normalized
 pub mod Wht
 pub mod Halves
 pub mod Multiplied
-pub mod Products
 pub mod Exp
 pub mod Channel
 pub mod Decision

@@ -7,9 +7,9 @@ pub fn decide(p: &[f32; 32]) -> u8
     ensures { result ≡ decision p.now }
 {
     let mut best = 0u8;
-    for x in 0..32u8 {
-        if p[x as usize] > p[best as usize] {
-            best = x;
+    for (x, y) in p.iter().enumerate() {
+        if *y > p[best as usize] {
+            best = x as u8;
         }
     }
     best

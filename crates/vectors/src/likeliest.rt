@@ -5,7 +5,7 @@ ghost use Rattle.vectors.specs.Likeliest.{likeliest_two, margin};
 
 use crate::multiplied::raise;
 
-#[derive(Clone, Copy)]
+#[derive(Clone, Copy, Debug, PartialEq, Eq)]
 pub struct Two {
     pub first: u8,
     pub second: u8,
@@ -20,6 +20,7 @@ pub fn likeliest_two(p: &[f32; 32]) -> Two
         first = 1;
         second = 0;
     }
+    // No plainer: the value is the answer, and the first two are compared already.
     for x in 2..32u8 {
         if p[x as usize] > p[first as usize] {
             second = first;

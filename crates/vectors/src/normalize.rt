@@ -6,8 +6,8 @@ fn sum_of(p: &[f32; 32]) -> f32
     ensures { result ≡ entry_sum p.now }
 {
     let mut s = 0.0f32;
-    for x in 0..32usize {
-        s = s + p[x];
+    for x in p {
+        s += *x;
     }
     s
 }
@@ -16,8 +16,8 @@ fn scale(p: [f32; 32], k: f32) -> [f32; 32]
     ensures { result ≡ scaled p k }
 {
     let mut q = p;
-    for x in 0..32usize {
-        q[x] = p[x] * k;
+    for x in q.iter_mut() {
+        *x = *x * k;
     }
     q
 }

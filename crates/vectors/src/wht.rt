@@ -8,6 +8,7 @@ fn sums_and_differences(a: [f32; 32]) -> [f32; 32]
     ensures { result ≡ halves a }
 {
     let mut b = a;
+    // No plainer: k says where the two are read and where the two are written, and so it becomes vector code.
     for k in 0..16usize {
         let x = a[2 * k];
         let y = a[2 * k + 1];

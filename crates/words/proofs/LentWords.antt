@@ -22,13 +22,13 @@ use Rattle.elimination.proofs.Infos.{info_inside, table_fits}
 use Rattle.graph.specs.declared.Code.{Code}
 use Rattle.graph.specs.Parts.{Parts}
 use Rattle.lent.specs.Misencoded.{graph_in, reduced_in}
-use Rattle.lent.specs.Sound.{Sound}
-use Rattle.lent.proofs.Sound.{sound_columns, sound_infos, sound_eliminated}
+use Rattle.lent.specs.Sound.{IsSound}
+use Rattle.lent.proofs.SoundCode.{sound_columns, sound_infos, sound_eliminated}
 use Rattle.words.specs.Encoding.{information_of, symbol, parity_symbol, encoding, info_symbols}
 use Rattle.words.specs.EncoderParts.{EncoderParts, encoded_by}
 use Rattle.words.proofs.Encodings.{info_values}
 
-module _ (c : Code) (p : Parts) (w : Sound c p) where
+module _ (c : Code) (p : Parts) (w : IsSound c p) where
   abbrev positions : List ℕ
   positions = information_of (graph_in c p) p.order
 

@@ -6,5 +6,4 @@ pub mod Sums
 pub mod Linear
 pub mod Theorem
 pub mod HeldChecks
-pub mod OnCode
 pub mod LentWords

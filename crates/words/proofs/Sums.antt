@@ -5,7 +5,7 @@ use mathlib.Core.Path.{◌≡◌, sym, ap, ◌∙◌}
 use mathlib.Core.Logic.{⊎_elim}
 use mathlib.Core.List.{List, map}
 use native.Mathlib.Omega.{arith}
-use lib.Bits.{bit_xor, xor_comm, xor_self, xor_zero_r, xor_lt}
+use lib.Bits.{bit_xor, xor_comm, xor_self, xor_zero_r, xor_lt, xor_assoc}
 use lib.ListN.{length, get_or, length-map, get_or-eq_default, get_or-map}
 use lib.Seq.{ext_get_or}
 use Rattle.lists.specs.Entry.{nth}
@@ -13,7 +13,6 @@ use Rattle.lists.proofs.Cases.{less_or_not}
 use Rattle.lists.proofs.Values.{values-length, values_at}
 use Rattle.field.specs.Field.{product}
 use Rattle.field.proofs.Product.{product-zero}
-use Rattle.field.proofs.Sum.{xor_assoc}
 use Rattle.words.specs.Linear.{sum_of, multiple_of}
 
 -- ---- sums

@@ -15,8 +15,8 @@ use Rattle.elimination.specs.Held.{held}
 use Rattle.lent.specs.LentCode.{NotRefused}
 use Rattle.lent.specs.Misencoded.{graph_in}
 use Rattle.graph.specs.Parts.{Parts}
-use Rattle.lent.specs.Sound.{Sound}
-use Rattle.lent.proofs.Sound.{sound}
+use Rattle.lent.specs.Sound.{IsSound}
+use Rattle.lent.proofs.SoundCode.{sound}
 use Rattle.lent.proofs.Encoded.{formed_small, formed_inside}
 use Rattle.elimination.proofs.Entries.{Small, Inside}
 use Rattle.words.specs.Encoding.{information_of, symbol, encoding, info_symbols}
@@ -51,7 +51,7 @@ module _ (c : Code) (p : Parts) where
 
 -- ---- of a code that the refusals leave
 
-module _ {c : Code} {p : Parts} (w : Sound c p) where
+module _ {c : Code} {p : Parts} (w : IsSound c p) where
   small : Small (graph_in c p)
   small = formed_small c p w.formed
 

@@ -1,5 +1,4 @@
--- The parts that an encoder reads, and what it makes by them: r parity positions and k information positions below n, and a table of r rows of k. Ours; only contracts of
--- private functions cite it.
+-- The parts that an encoder reads, and what it makes by them: r parity positions and k information positions below n, and a table of r rows of k. Ours; no public call's contract cites it.
 -- Assumes nothing.
 use Rattle.std.specs.Prelude.{ℕ, ◌+◌, ◌*◌, ◌<◌, ◌≤◌, ◌≡◌, List, length, replicate}
 use Rattle.lists.specs.Entry.{nth}

@@ -1,21 +1,17 @@
 -- The call info_positions: a code's information positions, into a part of n. nb.rs, `info_positions`.
 -- Assumes nothing.
-use Rattle.std.specs.Prelude.{ℕ, List, [], ◌∷◌, length}
+use Rattle.std.specs.Prelude.{ℕ, Bool, List, [], ◌∷◌}
+use Rattle.calls.specs.declared.Refusal.{Refusal}
 use Rattle.calls.specs.Refusal.{misfit}
 use Rattle.calls.specs.Parts.{padded}
-use Rattle.graph.specs.declared.Code.{Code}
-use Rattle.graph.specs.Parts.{Parts}
-use Rattle.lent.specs.Misencoded.{graph_in}
-use Rattle.lent.specs.LentCode.{MatrixWork, refusals}
-use Rattle.words.specs.declared.Number.{Number}
-use Rattle.words.specs.declared.Number.TheVariants.{Found, Refused}
+use Rattle.lent.specs.Held.{Held}
+use Rattle.lent.specs.LentCode.{graph_of, lent_refusals}
 use Rattle.words.specs.Encoding.{information_of}
-use Rattle.words.specs.OnCode.{Filled, filled}
 
-unfoldable pub info_positions : Code → Parts → List ℕ → MatrixWork → Filled Number
-info_positions c p positions work =
-    let found = information_of (graph_in c p) p.order in
-    filled (refusals c p work (misfit ((length positions, c.n) ∷ [])))
-    Refused (Found (length found))
-    positions (padded c.n 0 found)
-    work
+-- `positions`, `h` and `pivots` are the parts' lengths
+abbrev pub info_positions_refusals : Held → ℕ → ℕ → ℕ → List (Bool × Refusal)
+info_positions_refusals l positions h pivots = lent_refusals l h pivots (misfit ((positions, l.code.n) ∷ []))
+
+-- the part that holds them
+abbrev pub positions_part : Held → List ℕ
+positions_part l = padded l.code.n 0 (information_of (graph_of l) l.parts.order)

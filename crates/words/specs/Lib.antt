@@ -1,7 +1,6 @@
 pub mod Word
 pub mod Encoding
 pub mod Linear
-pub mod OnCode
 pub mod EncoderParts
 pub mod BadWord
 pub mod Encode

@@ -1,3 +1,0 @@
-pub mod OneNumber
-pub mod OnCode
-pub mod DecodingCalls

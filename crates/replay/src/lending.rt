@@ -1,0 +1,95 @@
+// What a call on a code is given: the code of a case with its damage, and what goes with it. Before a call every entry of its output and work parts is 1.
+ghost use Rattle.std.specs.Prelude.{◌≡◌, IfOk, vec_len};
+
+use crate::case::CaseError;
+use crate::code::{Code, Damage, Shape};
+use crate::fields::Fields;
+use crate::given::{Metrics, Preferences, change, draw_symbols, read_symbols};
+use std::alloc::{AllocError, Global};
+
+// The work parts h and pivots, before a call.
+pub fn work_parts(alloc: Global) -> Result<(Vec<u8>, Vec<u16>), AllocError>
+    ensures { IfOk result (λ work. (vec_len work.0 ≡ 65536) × (vec_len work.1 ≡ 256)) }
+{
+    let h = vec![in alloc; 1; 65536]?;
+    let pivots = vec![in alloc; 1; 256]?;
+    Ok((h, pivots))
+}
+
+// CODE DAMAGE
+pub fn damaged(alloc: Global, fields: &mut Fields<'_>) -> Result<Code, CaseError> {
+    let shape = Shape::read(fields)?;
+    let damage = Damage::read(fields)?;
+    let mut code = shape.code(alloc)?;
+    code.damage(damage)?;
+    Ok(code)
+}
+
+// The word that `encode` answers to the symbols. One that it refuses is not understood.
+fn encoded(alloc: Global, code: &Code, symbols: &[u8]) -> Result<Vec<u8>, CaseError> {
+    let mut word = vec![in alloc; 1u8; code.numbers.n]?;
+    let (mut h, mut pivots) = work_parts(alloc)?;
+    words::encode(&code.lend(), symbols, &mut word, &mut h, &mut pivots).map_err(
+        |_| CaseError::NotUnderstood,
+    )?;
+    Ok(word)
+}
+
+// CODE DAMAGE COUNT DRAWS LIMIT PLACE CHANGE. The word is of the code before the damage.
+pub fn code_and_changed_word(
+    alloc: Global,
+    fields: &mut Fields<'_>,
+) -> Result<(Code, Vec<u8>), CaseError> {
+    let shape = Shape::read(fields)?;
+    let damage = Damage::read(fields)?;
+    let mut code = shape.code(alloc)?;
+    let symbols = read_symbols(alloc, fields)?;
+    let mut word = encoded(alloc, &code, &symbols)?;
+    change(&mut word, fields)?;
+    code.damage(damage)?;
+    Ok((code, word))
+}
+
+// CODE DAMAGE RULE SHIFT
+pub fn code_and_preferences(
+    alloc: Global,
+    fields: &mut Fields<'_>,
+) -> Result<(Code, Vec<i64>), CaseError> {
+    let code = damaged(alloc, fields)?;
+    let preferences = Preferences::read(fields)?;
+    let prefer = preferences.numbers(alloc, &code.shape)?;
+    Ok((code, prefer))
+}
+
+// CODE DAMAGE RULE DRAWS SPREAD PEAK KNOWN: the code, the word that was sent, and its metrics. The word is of the code before the damage.
+#[derive(Drop)]
+pub struct Sent {
+    pub code: Code,
+    pub word: Vec<u8>,
+    pub metrics: Vec<f32>,
+    pub known: u64,
+}
+
+impl Sent {
+    // The first draws, each mod 32, are symbols: as many as KNOWN, or as the code has information positions where that is less. The metrics go on after them.
+    pub fn read(alloc: Global, fields: &mut Fields<'_>) -> Result<Sent, CaseError> {
+        let shape = Shape::read(fields)?;
+        let damage = Damage::read(fields)?;
+        let metrics = Metrics::read(fields)?;
+        let known = fields.next()?;
+        let mut code = shape.code(alloc)?;
+        let positions = code.numbers.n.saturating_sub(code.numbers.rank);
+        let count = usize::try_from(known)?.min(positions);
+        let mut generator = metrics.generator();
+        let symbols = draw_symbols(alloc, &mut generator, count, 32)?;
+        let word = encoded(alloc, &code, &symbols)?;
+        let metrics = metrics.floats(alloc, &mut generator, &word)?;
+        code.damage(damage)?;
+        Ok(Sent {
+            code,
+            word,
+            metrics,
+            known,
+        })
+    }
+}
