@@ -7,7 +7,7 @@ use mathlib.Core.List.{List, [], ◌∷◌}
 use borrow.Author.Tests.{eq-eqb, leb-true, leb-false, lt-ltb, le-ltb}
 use lib.Dec.{leb, ltb}
 use lib.Ieee.{Float}
-use lib.ListN.{length, take}
+use lib.ListN.{length, take, replicate, length-replicate}
 use Rattle.lists.specs.Chain.{chain}
 use Rattle.lists.proofs.Chain.{chain_ext}
 use Rattle.std.specs.Prelude.{Option, None, Result, Ok}
@@ -19,6 +19,7 @@ use Rattle.calls.proofs.Refusals.{by_ok, second}
 use Rattle.graph.specs.declared.Code.{Code}
 use Rattle.graph.specs.Parts.{Parts}
 use Rattle.lent.specs.Held.{Held}
+use Rattle.vectors.specs.Float32.{zero32}
 use Rattle.rounds.specs.Tanner.{tanner_in}
 use Rattle.rounds.specs.Ready.{Narrow}
 use Rattle.rounds.specs.Rounds.{posteriors_after, decisions}
@@ -90,6 +91,16 @@ module _ (l : Held) (h pivots : ℕ) (rest : Bool) (limit : ℕ) {sound : Held} 
 
   pub came_work : h ≡ 65536
   came_work = (tests_work l.code l.parts h pivots rest limit came.0).0
+
+  -- the rounds' parts have their lengths: the cleared vectors, the metrics and the cleared matrix
+  pub came_lengths : (matrix : List ℕ) {left : List ℕ} (vectors : List Float) {floats : List Float} {metrics : ℕ} → h ≡ length matrix → left ≡ replicate (length matrix) 0
+      → floats ≡ replicate (length vectors) zero32 → length vectors ≡ Work.vectors_length → metrics ≡ l.code.n * 32
+      → (length floats ≡ Work.vectors_length) × (metrics ≡ sound.code.n * 32) × (length left ≡ 65536)
+  came_lengths matrix vectors same cleared blank long own = (
+    ap length blank ∙ length-replicate (length vectors) zero32 ∙ long,
+    own ∙ ap (λ (v : Held). v.code.n * 32) (sym came_same),
+    ap length cleared ∙ length-replicate (length matrix) 0 ∙ sym same ∙ came_work,
+  )
 
   -- what the rounds leave, `a` being the answer
   module _ (metrics : List Float) (known : ℕ) (x : List ℕ) {r : Ended} {w : List Float}

@@ -17,7 +17,7 @@ use rounds::rows::VECTORS;
 
 mod belief_propagation;
 mod list_decoding;
-mod out;
+mod output;
 mod refusals;
 
 // What a decoding answers: whether there is a word, and how many rounds were made.
@@ -58,9 +58,9 @@ pub fn decode_soft(
         },
         Ok(sound) => {
             let ended = belief_propagation::run(&sound, metrics, known, limit, h, vectors);
-            out::copy_posteriors(code.numbers.n, vectors, posteriors);
+            output::copy_posteriors(code.numbers.n, vectors, posteriors);
             vectors.fill(0.0);
-            out::finish(ended, h, word)
+            output::finish(ended, h, word)
         }
     }
 }
@@ -93,7 +93,7 @@ pub fn decode(
         Ok(sound) => {
             let ended = belief_propagation::run(&sound, metrics, known, limit, h, vectors);
             vectors.fill(0.0);
-            out::finish(ended, h, word)
+            output::finish(ended, h, word)
         }
     }
 }

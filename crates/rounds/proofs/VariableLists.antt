@@ -1,12 +1,13 @@
 -- A variable's list of places is one that its products may go over; and what the loops over variables and over edges make.
 -- Assumes nothing.
-use Prim.Native.Nat.{ℕ, ◌+◌, ◌<◌, ◌≤◌}
+use Prim.Native.Nat.{ℕ, ◌+◌, ◌-◌, ◌<◌, ◌≤◌}
 use mathlib.Core.Path.{◌≡◌, ap, ◌∙◌}
 use mathlib.Core.List.{List}
 use native.Mathlib.Omega.{arith}
 use lib.Ieee.{Float}
-use lib.ListN.{length}
+use lib.ListN.{length, take, drop}
 use Rattle.lists.specs.Entry.{nth}
+use Rattle.lists.proofs.ListSearch.{middle-length, middle_at}
 use Rattle.lists.proofs.Rising.{rises}
 use Rattle.vectors.specs.Vector.{Vector, vector}
 use Rattle.vectors.specs.Normalized.{normalized}
@@ -16,6 +17,20 @@ use Rattle.rounds.specs.Listed.{Listed}
 use Rattle.rounds.specs.Work.{vectors_length, from_checks}
 use Rattle.rounds.specs.Ready.{Columns}
 use Rattle.rounds.proofs.Alike.{posterior_ext, to_check_ext}
+
+-- a list that stands from `lo` to `hi`, as the loops over its places have it
+module _ (col : List ℕ) (lo hi v : ℕ) (w : List Float) (k : Listed col lo hi v w) where
+  abbrev pub places : List ℕ
+  places = take (hi - lo) (drop lo col)
+
+  pub places-length : length places ≡ hi - lo
+  places-length = middle-length col lo (hi - lo) (omega (arith, k.rise, k.end))
+
+  pub places_at : (j : ℕ) → j < hi - lo → nth places j ≡ nth col (lo + j)
+  places_at j h = middle_at col lo (hi - lo) j h
+
+  pub places_inside : (j : ℕ) → j < length places → nth places j < 512
+  places_inside j h = omega (arith, places-length, places_at j (omega (arith, places-length)), k.places j (omega (arith, places-length)))
 
 module _ (n : ℕ) (start col : List ℕ) (k : Columns n start col) (w : List Float) (v : ℕ) (h : v < n) where
   end : nth start (v + 1) ≤ nth start n
