@@ -261,6 +261,127 @@ uint8_t hazgunek_list_decode(size_t n, size_t m, size_t edges, size_t rank, cons
                              size_t width, uint32_t *rounds, uint8_t *word, size_t word_len,
                              uint8_t *h, size_t h_len, uint16_t *pivots, size_t pivots_len);
 
+/* Rates and frames. A rate is a number: 0 is 1/4, 1 is 1/3, 2 is 1/2, 3 is 2/3. Its code has n symbols and n - 52 checks. Rates, sets,
+ * layouts and fallbacks are numbers of any size; one that is none is turned down by 1. */
+
+/* *n = how many symbols a word of the rate has. 1: rate is above 3; *n is left as it was. */
+uint8_t hazgunek_n_for(size_t rate, size_t *n);
+
+/* degrees[v] = the degree of variable v of the rate's code. 1: rate is above 3. 3: degrees_len is not the rate's n. Both leave degrees as
+ * it was. */
+uint8_t hazgunek_degrees_for(size_t rate, size_t *degrees, size_t degrees_len);
+
+/* The lengths of the work parts of hazgunek_code_at. */
+#define HAZGUNEK_CODE_AT_WORDS 512
+#define HAZGUNEK_CODE_AT_BYTES 131072
+
+/* What hazgunek_code_at works in. Any values may stand in it before a call. */
+struct hazgunek_code_at_work {
+    uint16_t words[HAZGUNEK_CODE_AT_WORDS];
+    uint8_t bytes[HAZGUNEK_CODE_AT_BYTES];
+};
+
+#define HAZGUNEK_CODE_AT_WORK(work) (work)->words, HAZGUNEK_CODE_AT_WORDS, (work)->bytes, HAZGUNEK_CODE_AT_BYTES
+
+/* The code of a rate, for information set 0, echelon, or 1, peeled, with its n and m. With a code of the structs above:
+ *
+ *     number = hazgunek_code_at(rate, set, &n, &m, HAZGUNEK_NEW_CODE(&code), HAZGUNEK_CODE_AT_WORK(&work));
+ *
+ * 1: rate is above 3 or set above 1. 3: a part has not its length; 1 and 3 touch nothing. The work parts are all zero after 0. */
+uint8_t hazgunek_code_at(size_t rate, size_t set, size_t *n, size_t *m, size_t *edges, size_t *rank,
+                         uint16_t *var, size_t var_len, uint8_t *coef, size_t coef_len, uint16_t *row, size_t row_len,
+                         uint16_t *start, size_t start_len, uint16_t *col, size_t col_len, uint16_t *order, size_t order_len,
+                         uint16_t *parity, size_t parity_len, uint16_t *info, size_t info_len, uint8_t *a, size_t a_len,
+                         uint16_t *words, size_t words_len, uint8_t *bytes, size_t bytes_len);
+
+/* Bits to symbols, five to a symbol and most significant first, the bits that the last one lacks being 0; of each bit the lowest digit
+ * counts. 3: syms_len is not (bits_len + 4) / 5; syms is left as it was. */
+uint8_t hazgunek_bits_to_syms(const uint8_t *bits, size_t bits_len, uint8_t *syms, size_t syms_len);
+
+/* How many bits a frame has, and the lengths of the work parts of the calls on frames: 512 + 257 + 257 + 512 + 256 + 256 + 256 + 2 * 256,
+ * 512 + 16,384 + 2 * 65,536, and HAZGUNEK_VECTORS + 32 * 256. */
+#define HAZGUNEK_BITS 256
+#define HAZGUNEK_FRAME_WORDS 2818
+#define HAZGUNEK_FRAME_BYTES 147968
+#define HAZGUNEK_FRAME_FLOATS 58368
+
+/* What a call on a frame works in; the floats are for decoding alone. Any values may stand in them before a call. */
+struct hazgunek_frame_work {
+    uint16_t words[HAZGUNEK_FRAME_WORDS];
+    uint8_t bytes[HAZGUNEK_FRAME_BYTES];
+};
+
+struct hazgunek_frame_floats {
+    float floats[HAZGUNEK_FRAME_FLOATS];
+};
+
+/* The arguments for these parts: `work` points to a struct hazgunek_frame_work, `more` to a struct hazgunek_frame_floats. */
+#define HAZGUNEK_FRAME_WORK(work) (work)->words, HAZGUNEK_FRAME_WORDS, (work)->bytes, HAZGUNEK_FRAME_BYTES
+#define HAZGUNEK_FRAME_DECODING_WORK(work, more) HAZGUNEK_FRAME_WORK(work), (more)->floats, HAZGUNEK_FRAME_FLOATS
+
+/* A layout is a number, 4 * set + map: map 0 is plain, 1 heavy, 2 spread, 3 spread and heavy. The calls build their code in the work parts
+ * themselves; no code is lent. 1: rate is above 3, layout above 7, or fallback above 1. 3: a part has not its length. 1 and 3 touch
+ * nothing but *rounds. The work parts are all zero after every other number and after 0. */
+
+/* tones = the n symbols of the rate's word for 256 bits, of each of which the lowest digit counts:
+ *
+ *     number = hazgunek_encode_bits_at(rate, layout, bits, HAZGUNEK_BITS, tones, n, HAZGUNEK_FRAME_WORK(&work)); */
+uint8_t hazgunek_encode_bits_at(size_t rate, size_t layout, const uint8_t *bits, size_t bits_len, uint8_t *tones, size_t tones_len,
+                                uint16_t *words, size_t words_len, uint8_t *bytes, size_t bytes_len);
+
+/* The same at rate 0. */
+uint8_t hazgunek_encode_bits_with(size_t layout, const uint8_t *bits, size_t bits_len, uint8_t *tones, size_t tones_len,
+                                  uint16_t *words, size_t words_len, uint8_t *bytes, size_t bytes_len);
+
+/* The same at rate 0 in layout 2. */
+uint8_t hazgunek_encode_bits(const uint8_t *bits, size_t bits_len, uint8_t *tones, size_t tones_len,
+                             uint16_t *words, size_t words_len, uint8_t *bytes, size_t bytes_len);
+
+/* A frame's 256 bits, each 0 or 1, from 32 metrics for each of the n tones, as hazgunek_decode_soft takes them, and priors, of any floats:
+ * prior[i] is the logarithm of how much likelier a 0 than a 1 is as bit i. prior_len may be any; entries from the 257th on are not added,
+ * but one that is not 0.0 says, as any other does, that there are priors. Belief propagation makes 100 rounds at most. Where it finds no
+ * word, there are priors and fallback is 1, the word is that of list decoding at width 10; otherwise, with fallback 0 or without priors,
+ * there is none.
+ *
+ *     number = hazgunek_decode_bits_prior_at(rate, layout, metrics, 32 * n, prior, prior_len, fallback, &rounds, bits, HAZGUNEK_BITS,
+ *                                            posteriors, 32 * n, HAZGUNEK_FRAME_DECODING_WORK(&work, &floats));
+ *
+ * 9: a check has more than 32 edges, which none of the four codes has. 10: no word was found. 11: the word's padding bits are not all
+ * 0. 9 to 11 leave bits as it was. posteriors = the last round's, after 10 and 11 too. *rounds is written whatever the number: the number
+ * of the first round that satisfied all checks, 100 where none did, 0 after 1, 3 and 9. */
+uint8_t hazgunek_decode_bits_prior_at(size_t rate, size_t layout, const float *metrics, size_t metrics_len,
+                                      const float *prior, size_t prior_len, size_t fallback, uint32_t *rounds,
+                                      uint8_t *bits, size_t bits_len, float *posteriors, size_t posteriors_len,
+                                      uint16_t *words, size_t words_len, uint8_t *bytes, size_t bytes_len,
+                                      float *floats, size_t floats_len);
+
+/* The same at rate 0. */
+uint8_t hazgunek_decode_bits_prior_fb(size_t layout, const float *metrics, size_t metrics_len,
+                                      const float *prior, size_t prior_len, size_t fallback, uint32_t *rounds,
+                                      uint8_t *bits, size_t bits_len, float *posteriors, size_t posteriors_len,
+                                      uint16_t *words, size_t words_len, uint8_t *bytes, size_t bytes_len,
+                                      float *floats, size_t floats_len);
+
+/* The same at rate 0 with fallback 0. */
+uint8_t hazgunek_decode_bits_prior_with(size_t layout, const float *metrics, size_t metrics_len,
+                                        const float *prior, size_t prior_len, uint32_t *rounds,
+                                        uint8_t *bits, size_t bits_len, float *posteriors, size_t posteriors_len,
+                                        uint16_t *words, size_t words_len, uint8_t *bytes, size_t bytes_len,
+                                        float *floats, size_t floats_len);
+
+/* The same at rate 0 in layout 2 with fallback 0. */
+uint8_t hazgunek_decode_bits_prior(const float *metrics, size_t metrics_len,
+                                   const float *prior, size_t prior_len, uint32_t *rounds,
+                                   uint8_t *bits, size_t bits_len, float *posteriors, size_t posteriors_len,
+                                   uint16_t *words, size_t words_len, uint8_t *bytes, size_t bytes_len,
+                                   float *floats, size_t floats_len);
+
+/* The same at rate 0 in layout 2 with fallback 0 and no priors. */
+uint8_t hazgunek_decode_bits(const float *metrics, size_t metrics_len, uint32_t *rounds,
+                             uint8_t *bits, size_t bits_len, float *posteriors, size_t posteriors_len,
+                             uint16_t *words, size_t words_len, uint8_t *bytes, size_t bytes_len,
+                             float *floats, size_t floats_len);
+
 #ifdef __cplusplus
 }
 #endif

@@ -11,9 +11,7 @@ ghost use Rattle.decoders.specs.Decode.{decode_answer};
 ghost use Rattle.decoders.specs.ListDecode.{list_answer};
 ghost use Rattle.abi.specs.Held.{held_of};
 
-use crate::number_of;
-use graph::Code;
-use lent::Lent;
+use crate::{decoded, lent_code};
 
 #[unsafe(no_mangle)]
 pub extern "C" fn hazgunek_decode_soft(
@@ -50,23 +48,13 @@ pub extern "C" fn hazgunek_decode_soft(
         × (pivots.new ≡ worked answer 0 pivots.old)
         × (vectors.new ≡ worked answer zero32 vectors.old) }
 {
-    let code = Lent {
-        numbers: Code { n, m, edges, rank },
-        var,
-        coef,
-        row,
-        start,
-        col,
-        order,
-        parity,
-        info,
-        a,
-    };
-    let soft = decoders::decode_soft(
+    let code = lent_code(
+        n, m, edges, rank, var, coef, row, start, col, order, parity, info, a,
+    );
+    let decoding = decoders::decode_soft(
         &code, metrics, known, limit, word, posteriors, h, pivots, vectors,
     );
-    *rounds = soft.rounds;
-    number_of(soft.answer)
+    decoded(decoding, rounds)
 }
 
 #[unsafe(no_mangle)]
@@ -102,21 +90,11 @@ pub extern "C" fn hazgunek_decode(
         × (pivots.new ≡ worked answer 0 pivots.old)
         × (vectors.new ≡ worked answer zero32 vectors.old) }
 {
-    let code = Lent {
-        numbers: Code { n, m, edges, rank },
-        var,
-        coef,
-        row,
-        start,
-        col,
-        order,
-        parity,
-        info,
-        a,
-    };
-    let hard = decoders::decode(&code, metrics, known, limit, word, h, pivots, vectors);
-    *rounds = hard.rounds;
-    number_of(hard.answer)
+    let code = lent_code(
+        n, m, edges, rank, var, coef, row, start, col, order, parity, info, a,
+    );
+    let decoding = decoders::decode(&code, metrics, known, limit, word, h, pivots, vectors);
+    decoded(decoding, rounds)
 }
 
 // There are no rounds: the count that is written is 0.
@@ -151,19 +129,9 @@ pub extern "C" fn hazgunek_list_decode(
         × (h.new ≡ worked answer 0 h.old)
         × (pivots.new ≡ worked answer 0 pivots.old) }
 {
-    let code = Lent {
-        numbers: Code { n, m, edges, rank },
-        var,
-        coef,
-        row,
-        start,
-        col,
-        order,
-        parity,
-        info,
-        a,
-    };
-    let list = decoders::list_decode(&code, metrics, posteriors, width, word, h, pivots);
-    *rounds = list.rounds;
-    number_of(list.answer)
+    let code = lent_code(
+        n, m, edges, rank, var, coef, row, start, col, order, parity, info, a,
+    );
+    let decoding = decoders::list_decode(&code, metrics, posteriors, width, word, h, pivots);
+    decoded(decoding, rounds)
 }

@@ -3,6 +3,7 @@
 #![tactic(auto)]
 
 ghost use Rattle.std.specs.Prelude.{◌≡◌, length};
+ghost use Rattle.std.specs.Result.{result_unwrap_or};
 ghost use Rattle.lists.specs.Values.{values};
 ghost use Rattle.calls.specs.Refusal.{first_of, answered, answer_number};
 ghost use Rattle.calls.specs.Parts.{worked, written};
@@ -10,18 +11,25 @@ ghost use Rattle.field.specs.Field.{product as field_product, inverse as field_i
 ghost use Rattle.field.specs.SplitMix64.{after, drawn};
 ghost use Rattle.graph.specs.EvenDegrees.{even_degree, even_refusals};
 ghost use Rattle.graph.specs.Parts.{Parts, parts, lent};
+ghost use Rattle.lent.specs.Held.{Held};
 ghost use Rattle.graph.specs.Descending.{descending};
 ghost use Rattle.graph.specs.Built.{built};
 ghost use Rattle.graph.specs.New.{numbers, new_refusals, lent_work};
 ghost use Rattle.abi.specs.Field.{mul_refusals, inv_refusals};
+ghost use Rattle.abi.specs.Held.{held_of};
 
 use calls::Refusal;
+use decoders::Decoding;
 use field::gf;
 use field::splitmix64::SplitMix64;
+use graph::Code;
+use lent::Lent;
 
 mod decoder_calls;
+mod frame_calls;
 mod on_code;
 mod peeling_calls;
+mod rate_calls;
 
 // The number of an answer, 0 where the call was not turned down. No plainer as a `From`: neither type is this crate's.
 fn number_of(answer: Result<(), Refusal>) -> u8
@@ -30,6 +38,61 @@ fn number_of(answer: Result<(), Refusal>) -> u8
     match answer {
         Ok(()) => 0,
         Err(refusal) => refusal.number(),
+    }
+}
+
+// Leaves the number that a call found, and answers the refusal's.
+fn found(answer: Result<usize, Refusal>, place: &mut usize) -> u8
+    ensures number { result ≡ answer_number answer }
+    ensures place_after { place.new ≡ result_unwrap_or answer place.old }
+{
+    match answer {
+        Ok(value) => {
+            *place = value;
+            0
+        }
+        Err(refusal) => refusal.number(),
+    }
+}
+
+// Leaves a decoding's count of rounds, and answers the refusal's number.
+fn decoded(decoding: Decoding, rounds: &mut u32) -> u8
+    ensures number { result ≡ answer_number decoding.answer }
+    ensures rounds_after { rounds.new ≡ decoding.rounds }
+{
+    *rounds = decoding.rounds;
+    number_of(decoding.answer)
+}
+
+// A lent code of its numbers and its parts.
+fn lent_code<'a>(
+    n: usize,
+    m: usize,
+    edges: usize,
+    rank: usize,
+    var: &'a [u16],
+    coef: &'a [u8],
+    row: &'a [u16],
+    start: &'a [u16],
+    col: &'a [u16],
+    order: &'a [u16],
+    parity: &'a [u16],
+    info: &'a [u16],
+    a: &'a [u8],
+) -> Lent<'a>
+    ensures { ◌≡◌ {A = Held} result (held_of n m edges rank var.now coef.now row.now start.now col.now order.now parity.now info.now a.now) }
+{
+    Lent {
+        numbers: Code { n, m, edges, rank },
+        var,
+        coef,
+        row,
+        start,
+        col,
+        order,
+        parity,
+        info,
+        a,
     }
 }
 

@@ -15,9 +15,7 @@ ghost use Rattle.words.specs.N.{n_of};
 ghost use Rattle.words.specs.InfoPositions.{info_positions_refusals, positions_part};
 ghost use Rattle.abi.specs.Held.{held_of};
 
-use crate::number_of;
-use graph::Code;
-use lent::Lent;
+use crate::{found, lent_code, number_of};
 
 // The word of the given information symbols.
 #[unsafe(no_mangle)]
@@ -47,18 +45,9 @@ pub extern "C" fn hazgunek_encode(
         × (h.new ≡ worked answer 0 h.old)
         × (pivots.new ≡ worked answer 0 pivots.old) }
 {
-    let code = Lent {
-        numbers: Code { n, m, edges, rank },
-        var,
-        coef,
-        row,
-        start,
-        col,
-        order,
-        parity,
-        info,
-        a,
-    };
+    let code = lent_code(
+        n, m, edges, rank, var, coef, row, start, col, order, parity, info, a,
+    );
     number_of(words::encode(&code, syms, word, h, pivots))
 }
 
@@ -92,25 +81,10 @@ pub extern "C" fn hazgunek_info_of(
         × (h.new ≡ worked answer 0 h.old)
         × (pivots.new ≡ worked answer 0 pivots.old) }
 {
-    let code = Lent {
-        numbers: Code { n, m, edges, rank },
-        var,
-        coef,
-        row,
-        start,
-        col,
-        order,
-        parity,
-        info,
-        a,
-    };
-    match words::info_of(&code, word, syms, h, pivots) {
-        Ok(found) => {
-            *count = found;
-            0
-        }
-        Err(refusal) => refusal.number(),
-    }
+    let code = lent_code(
+        n, m, edges, rank, var, coef, row, start, col, order, parity, info, a,
+    );
+    found(words::info_of(&code, word, syms, h, pivots), count)
 }
 
 // Whether the word satisfies all checks: 1 or 0.
@@ -141,18 +115,9 @@ pub extern "C" fn hazgunek_checks_ok(
         × (h.new ≡ worked answer 0 h.old)
         × (pivots.new ≡ worked answer 0 pivots.old) }
 {
-    let code = Lent {
-        numbers: Code { n, m, edges, rank },
-        var,
-        coef,
-        row,
-        start,
-        col,
-        order,
-        parity,
-        info,
-        a,
-    };
+    let code = lent_code(
+        n, m, edges, rank, var, coef, row, start, col, order, parity, info, a,
+    );
     match words::checks_ok(&code, word, h, pivots) {
         Ok(found) => {
             *ok = u8::from(found);
@@ -190,25 +155,10 @@ pub extern "C" fn hazgunek_degree(
         × (h.new ≡ worked answer 0 h.old)
         × (pivots.new ≡ worked answer 0 pivots.old) }
 {
-    let code = Lent {
-        numbers: Code { n, m, edges, rank },
-        var,
-        coef,
-        row,
-        start,
-        col,
-        order,
-        parity,
-        info,
-        a,
-    };
-    match words::degree(&code, v, h, pivots) {
-        Ok(found) => {
-            *degree = found;
-            0
-        }
-        Err(refusal) => refusal.number(),
-    }
+    let code = lent_code(
+        n, m, edges, rank, var, coef, row, start, col, order, parity, info, a,
+    );
+    found(words::degree(&code, v, h, pivots), degree)
 }
 
 // How many information positions the code has.
@@ -238,25 +188,10 @@ pub extern "C" fn hazgunek_k(
         × (h.new ≡ worked answer 0 h.old)
         × (pivots.new ≡ worked answer 0 pivots.old) }
 {
-    let code = Lent {
-        numbers: Code { n, m, edges, rank },
-        var,
-        coef,
-        row,
-        start,
-        col,
-        order,
-        parity,
-        info,
-        a,
-    };
-    match words::k(&code, h, pivots) {
-        Ok(found) => {
-            *k = found;
-            0
-        }
-        Err(refusal) => refusal.number(),
-    }
+    let code = lent_code(
+        n, m, edges, rank, var, coef, row, start, col, order, parity, info, a,
+    );
+    found(words::k(&code, h, pivots), k)
 }
 
 // How many symbols the code's words have.
@@ -286,25 +221,10 @@ pub extern "C" fn hazgunek_n(
         × (h.new ≡ worked answer 0 h.old)
         × (pivots.new ≡ worked answer 0 pivots.old) }
 {
-    let code = Lent {
-        numbers: Code { n, m, edges, rank },
-        var,
-        coef,
-        row,
-        start,
-        col,
-        order,
-        parity,
-        info,
-        a,
-    };
-    match words::n(&code, h, pivots) {
-        Ok(found) => {
-            *symbols = found;
-            0
-        }
-        Err(refusal) => refusal.number(),
-    }
+    let code = lent_code(
+        n, m, edges, rank, var, coef, row, start, col, order, parity, info, a,
+    );
+    found(words::n(&code, h, pivots), symbols)
 }
 
 // The information positions, and how many they are.
@@ -336,23 +256,8 @@ pub extern "C" fn hazgunek_info_positions(
         × (h.new ≡ worked answer 0 h.old)
         × (pivots.new ≡ worked answer 0 pivots.old) }
 {
-    let code = Lent {
-        numbers: Code { n, m, edges, rank },
-        var,
-        coef,
-        row,
-        start,
-        col,
-        order,
-        parity,
-        info,
-        a,
-    };
-    match words::info_positions(&code, positions, h, pivots) {
-        Ok(found) => {
-            *count = found;
-            0
-        }
-        Err(refusal) => refusal.number(),
-    }
+    let code = lent_code(
+        n, m, edges, rank, var, coef, row, start, col, order, parity, info, a,
+    );
+    found(words::info_positions(&code, positions, h, pivots), count)
 }

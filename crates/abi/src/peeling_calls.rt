@@ -7,8 +7,8 @@ ghost use Rattle.peeling.specs.PeelPicks.{peel_picks_refusals, picked, picks_par
 ghost use Rattle.peeling.specs.WithPeeledInfo.{peeled_refusals, peeled_code, peeled_parts};
 ghost use Rattle.abi.specs.Held.{code_of, held_of};
 
+use crate::{found, lent_code};
 use graph::Code;
-use lent::Lent;
 
 // The symbols that peeling picks, in order, and how many they are.
 #[unsafe(no_mangle)]
@@ -40,25 +40,10 @@ pub extern "C" fn hazgunek_peel_picks(
         × (h.new ≡ worked answer 0 h.old)
         × (pivots.new ≡ worked answer 0 pivots.old) }
 {
-    let code = Lent {
-        numbers: Code { n, m, edges, rank },
-        var,
-        coef,
-        row,
-        start,
-        col,
-        order,
-        parity,
-        info,
-        a,
-    };
-    match peeling::peel_picks(&code, prefer, picks, h, pivots) {
-        Ok(found) => {
-            *count = found;
-            0
-        }
-        Err(refusal) => refusal.number(),
-    }
+    let code = lent_code(
+        n, m, edges, rank, var, coef, row, start, col, order, parity, info, a,
+    );
+    found(peeling::peel_picks(&code, prefer, picks, h, pivots), count)
 }
 
 // The code in the column order that peeling gives: its rank and the four parts that follow from the order are written over.

@@ -12,16 +12,17 @@ use lib.Ieee.{Float}
 use lib.ListN.{length}
 use Rattle.lists.specs.Entry.{nth}
 use Rattle.lists.specs.InOrder.{place_of}
-use Rattle.lists.proofs.InOrder.{Ordered}
+use Rattle.lists.specs.Ordered.{Ordered}
 use Rattle.elimination.specs.Graph.{Graph}
-use Rattle.words.specs.Encoding.{information_of, info_symbols}
+use Rattle.words.specs.Encoding.{information_of}
 use Rattle.words.proofs.Encodings.{info_at}
-use Rattle.words.proofs.Sums.{sum_length}
 use Rattle.candidates.specs.Alternatives.{likeliest_at, second_at, difference_at, margin_at, before, least_sure}
+use Rattle.candidates.specs.Candidate.{candidate}
+use Rattle.candidates.specs.Choices as Choices
 use Rattle.candidates.specs.Gray.{gray, digit, combination}
 use Rattle.candidates.specs.ListWord.{base_word, alternatives, slot_of, generator}
 use Rattle.candidates.proofs.GrayCode.{combination_start, combination_yes, combination_no, candidates_are, each_tried}
-use Rattle.candidates.proofs.ListWords.{base-length, base_at, slot_inside, added_same, added_other, to_second, candidate}
+use Rattle.candidates.proofs.ListWords.{generator-length, base_at, slot_inside, added_same, added_other, to_second}
 use Rattle.candidates.proofs.Stepping.{digit_cases}
 
 module _ (g : Graph) (order : List ℕ) (posteriors : List Float) (width : ℕ) where
@@ -34,10 +35,9 @@ module _ (g : Graph) (order : List ℕ) (posteriors : List Float) (width : ℕ) 
   abbrev slot : ℕ → ℕ
   slot = slot_of g order posteriors width
 
-  -- x has at the slot of alternative j the second likeliest value where digit j of c is 1, and the likeliest at a slot of which that holds of no alternative
-  pub record Chosen (c : ℕ) (x : List ℕ) : Type 0 where
-    pub second : (j : ℕ) → j < all → digit c j ≡ 1 → nth (info_symbols g order x) (slot j) ≡ second_at posteriors (nth positions) (slot j)
-    pub first : (t : ℕ) → t < length positions → ((j : ℕ) → j < all → slot j ≡ t → digit c j ≡ 0) → nth (info_symbols g order x) t ≡ likeliest_at posteriors (nth positions) t
+  -- which of the two likeliest values a word has at each slot, by the digits of a number
+  abbrev Chosen : ℕ → List ℕ → Type 0
+  Chosen = Choices.Chosen g order posteriors width
 
   -- slots in the order of their margins are distinct
   pub slots_distinct : Ordered (length positions) (before (margin_at posteriors (nth positions))) all (least_sure (length positions) (margin_at posteriors (nth positions)) all)
@@ -57,14 +57,6 @@ module _ (g : Graph) (order : List ℕ) (posteriors : List Float) (width : ℕ) 
       abbrev taken : ℕ → List ℕ
       taken w = combination gens base w c
 
-      taken-length : (w : ℕ) → length (taken w) ≡ g.n
-      taken-length zero = ap length (combination_start gens base c) ∙ base-length g order posteriors
-      taken-length (suc w) =
-          ⊎_elim
-          (λ e. ap length (combination_no gens base w c e) ∙ taken-length w)
-          (λ e. ap length (combination_yes gens base w c e) ∙ sum_length (taken w) (gens w) ∙ taken-length w)
-          (digit_cases (c / 2 ^ w))
-
       module _ (t : ℕ) (h : t < length positions) where
         -- the symbol at slot t
         abbrev at : List ℕ → ℕ
@@ -75,7 +67,7 @@ module _ (g : Graph) (order : List ℕ) (posteriors : List Float) (width : ℕ) 
         passed w b n =
             ⊎_elim
             (λ e. ap at (combination_no gens base w c e))
-            (λ e. ap at (combination_yes gens base w c e) ∙ added_other g order posteriors width (taken w) (taken-length w) w b t h n)
+            (λ e. ap at (combination_yes gens base w c e) ∙ added_other g order posteriors width (taken w) w b t h n)
             (digit_cases (c / 2 ^ w))
 
         stays : (w : ℕ) → w ≤ all → ((j : ℕ) → j < w → slot j ≡ t → digit c j ≡ 0) → at (taken w) ≡ likeliest_at posteriors (nth positions) t
@@ -93,7 +85,7 @@ module _ (g : Graph) (order : List ℕ) (posteriors : List Float) (width : ℕ) 
             ⊎_elim
             (λ e.
             ap at (combination_yes gens base w c (ap (digit c) (sym e) ∙ y))
-            ∙ added_same g order posteriors width (taken w) (taken-length w) w b t h (sym q ∙ ap slot e)
+            ∙ added_same g order posteriors width (taken w) w b t h (sym q ∙ ap slot e)
             ∙ ap (λ (a : ℕ). bit_xor a (difference_at posteriors (nth positions) t))
             (stays w (omega arith) (λ i r s. absurd (omega (arith, distinct i j (omega arith) (omega arith) (s ∙ sym q)))))
             ∙ to_second g order posteriors t)
@@ -107,10 +99,14 @@ module _ (g : Graph) (order : List ℕ) (posteriors : List Float) (width : ℕ) 
       }
 
     module _ (metrics : List Float) (few : width ≤ 16) where
+      -- no alternative is longer than the base
+      fit : (j : ℕ) → j < all → length (gens j) ≤ length base
+      fit j h = omega (arith, generator-length g order posteriors width j)
+
       pub candidate_chosen : (i : ℕ) → i < 2 ^ all → Chosen (gray i) (candidate g order posteriors width metrics i)
-      candidate_chosen i h = subst (Chosen (gray i)) (sym (candidates_are gens base metrics all (omega arith) i h)) (combination_chosen (gray i))
+      candidate_chosen i h = subst (Chosen (gray i)) (sym (candidates_are gens base metrics all (omega arith) fit i h)) (combination_chosen (gray i))
 
       pub each_chosen : (c : ℕ) → c < 2 ^ all → (i : ℕ) × (i < 2 ^ all) × Chosen c (candidate g order posteriors width metrics i)
       each_chosen c h =
-          let r = each_tried gens base metrics all (omega arith) c h in
+          let r = each_tried gens base metrics all (omega arith) fit c h in
           (r.0, r.1, subst (Chosen c) (sym r.2) (combination_chosen c))

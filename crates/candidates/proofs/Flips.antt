@@ -86,15 +86,15 @@ module _ (metrics : List Float) (g : List ℕ) where
         (λ z. subst (λ (u : List ℕ × Float). Flipping (suc v) u) (sym (pick_other (nth g v) 0 t (flip_at v t) z)) (rw (← add-one v) (on v t w z)))
         (same_or_not (nth g v) 0))
 
-    done : (t : List ℕ × Float) → Flipping (length word₀) t → (t.1 ≡ score_after metrics g word₀ s₀) × (t.0 ≡ sum_of word₀ g)
+    done : length g ≡ length word₀ → (t : List ℕ × Float) → Flipping (length word₀) t → (t.1 ≡ score_after metrics g word₀ s₀) × (t.0 ≡ sum_of word₀ g)
     unfolding score_after
-    done t w = (
+    done l t w = (
       w.scores,
       let long = ap length w.words ∙ each-length 0 added (length word₀) word₀ in
-          ext_get_or 0 t.0 (sum_of word₀ g) (long ∙ sym (sum_length word₀ g))
+          ext_get_or 0 t.0 (sum_of word₀ g) (omega (arith, long, l, sum_length word₀ g))
           (λ j h.
           let b : j < length word₀ = omega (arith, long) in
-          ap (λ (l : List ℕ). nth l j) w.words ∙ each_at 0 added (length word₀) word₀ j b b ∙ sym (sum_at word₀ g j b)),
+          ap (λ (l : List ℕ). nth l j) w.words ∙ each_at 0 added (length word₀) word₀ j b b ∙ sym (sum_at word₀ g j)),
     )
 
     -- ---- over the support alone
@@ -108,4 +108,4 @@ module _ (metrics : List Float) (g : List ℕ) where
     flips_end l e t q r =
         let n = length g in
         let same = iter_end _ _ _ _ _ q r ∙ sym (keep_below-iter (λ v. not (eqb (nth g v) 0)) flip_at n (word₀, s₀)) ∙ sym (iter_ext n turn _ (word₀, s₀) (λ v h u. swapped v u)) in
-        done t (subst (λ (m : ℕ). Flipping m t) l (subst (Flipping n) (sym same) (all n)))
+        done l t (subst (λ (m : ℕ). Flipping m t) l (subst (Flipping n) (sym same) (all n)))

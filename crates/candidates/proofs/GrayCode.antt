@@ -11,6 +11,7 @@ use lib.Bits.{differ, xor_step, xor_lt}
 use lib.Count.{count_trailing_zeros}
 use lib.Dec.{eqb}
 use lib.Ieee.{Float}
+use lib.ListN.{length}
 use lib.Pow.{pow_pos, pow_mono, shr-shr}
 use Rattle.lists.specs.Choice.{pick}
 use Rattle.lists.specs.EachOnce.{EachOnce}
@@ -22,7 +23,7 @@ use Rattle.lists.proofs.EachOnce.{each_once_has}
 use Rattle.lists.proofs.Iter.{iter_ext}
 use Rattle.field.proofs.Sum.{mod2}
 use Rattle.words.specs.Linear.{sum_of}
-use Rattle.words.proofs.Sums.{sum_twice, sum_swap}
+use Rattle.words.proofs.Sums.{sum_length, sum_twice, sum_swap}
 use Rattle.candidates.specs.Gray.{gray, digit, combination}
 use Rattle.candidates.specs.Tried.{tried}
 use Rattle.candidates.proofs.Stepping.{digit_cases, trailing_even, trailing_odd, trailing_below, word_start, word_on}
@@ -151,11 +152,20 @@ module _ (gens : ℕ → List ℕ) (base : List ℕ) where
   unfolding combination
   combination_ext w c c' e = iter_ext w (more c) (more c') base (λ j h x. ap (λ (d : ℕ). pick (eqb d 1) (sum_of x (gens j)) x) (e j h))
 
-  -- of numbers that differ in one digit
-  pub combination_differ : (w t c c' : ℕ) → t < w → Differ t c c' → combination gens base w c' ≡ sum_of (combination gens base w c) (gens t)
+  -- it is no shorter than the base
+  combination_long : (w c : ℕ) → length base ≤ length (combination gens base w c)
+  combination_long zero c = omega (arith, ap length (combination_start c))
+  combination_long (suc w) c =
+      ⊎_elim
+      (λ e. omega (arith, combination_long w c, ap length (combination_no w c e)))
+      (λ e. omega (arith, combination_long w c, ap length (combination_yes w c e), sum_length (combination gens base w c) (gens w)))
+      (digit_cases (c / 2 ^ w))
+
+  -- of numbers that differ in one digit, whose generator is no longer than the base
+  pub combination_differ : (w t c c' : ℕ) → t < w → length (gens t) ≤ length base → Differ t c c' → combination gens base w c' ≡ sum_of (combination gens base w c) (gens t)
   unfolding combination iter
-  combination_differ zero t c c' h d = absurd (omega arith)
-  combination_differ (suc w) t c c' h d = go (combination_differ w t c c') (same_or_not w t) (digit_cases (c / 2 ^ w))
+  combination_differ zero t c c' h f d = absurd (omega arith)
+  combination_differ (suc w) t c c' h f d = go (λ l. combination_differ w t c c' l f d) (same_or_not w t) (digit_cases (c / 2 ^ w))
     where
       x : List ℕ
       x = combination gens base w c
@@ -170,29 +180,31 @@ module _ (gens : ℕ → List ℕ) (base : List ℕ) where
       both : w ≡ t → digit c w + digit c' w ≡ 1
       both e = ap (λ (j : ℕ). digit c j + digit c' j) e ∙ d.at
 
-      go : (t < w → Differ t c c' → y ≡ sum_of x (gens t)) → (w ≡ t) ⊎ (w ≢ t) → (digit c w ≡ 0) ⊎ (digit c w ≡ 1) → more c' w y ≡ sum_of (more c w x) (gens t)
+      go : (t < w → y ≡ sum_of x (gens t)) → (w ≡ t) ⊎ (w ≢ t) → (digit c w ≡ 0) ⊎ (digit c w ≡ 1) → more c' w y ≡ sum_of (more c w x) (gens t)
       go ih (inl e) (inl z) = more_yes c' w y (omega (arith, both e)) ∙ ap₂ sum_of (low e) (ap gens e) ∙ ap (λ (l : List ℕ). sum_of l (gens t)) (sym (more_no c w x z))
       go ih (inl e) (inr z) =
-          more_no c' w y (omega (arith, both e)) ∙ low e ∙ sym (sum_twice x (gens t)) ∙ ap (λ (j : ℕ). sum_of (sum_of x (gens j)) (gens t)) (sym e)
+          more_no c' w y (omega (arith, both e)) ∙ low e ∙ sym (sum_twice x (gens t) (omega (arith, f, combination_long w c))) ∙ ap (λ (j : ℕ). sum_of (sum_of x (gens j)) (gens t)) (sym e)
           ∙ ap (λ (l : List ℕ). sum_of l (gens t)) (sym (more_yes c w x z))
-      go ih (inr n) (inl z) = more_no c' w y (sym (d.others w n) ∙ z) ∙ ih (omega (arith, n)) d ∙ ap (λ (l : List ℕ). sum_of l (gens t)) (sym (more_no c w x z))
+      go ih (inr n) (inl z) = more_no c' w y (sym (d.others w n) ∙ z) ∙ ih (omega (arith, n)) ∙ ap (λ (l : List ℕ). sum_of l (gens t)) (sym (more_no c w x z))
       go ih (inr n) (inr z) =
-          more_yes c' w y (sym (d.others w n) ∙ z) ∙ ap (λ (l : List ℕ). sum_of l (gens w)) (ih (omega (arith, n)) d) ∙ sum_swap x (gens t) (gens w)
+          more_yes c' w y (sym (d.others w n) ∙ z) ∙ ap (λ (l : List ℕ). sum_of l (gens w)) (ih (omega (arith, n))) ∙ sum_swap x (gens t) (gens w)
           ∙ ap (λ (l : List ℕ). sum_of l (gens t)) (sym (more_yes c w x z))
 
   -- ---- the candidates
 
-  module _ (metrics : List Float) (w : ℕ) (few : w ≤ 16) where
+  -- the first w generators are no longer than the base
+  module _ (metrics : List Float) (w : ℕ) (few : w ≤ 16) (fit : (j : ℕ) → j < w → length (gens j) ≤ length base) where
     pub candidates_are : (i : ℕ) → i < 2 ^ w → (tried metrics gens base i).word ≡ combination gens base w (gray i)
     unfolding gray
     candidates_are zero h = word_start metrics gens base ∙ sym (combination_none w)
     candidates_are (suc i) h =
         let t = count_trailing_zeros 32 (i + 1) in
+        let below : t < w = trailing_below 32 w (i + 1) (omega arith) (omega arith) (omega arith) in
         let n = add-one i in
         ap (λ (k : ℕ). (tried metrics gens base k).word) (sym n)
         ∙ word_on metrics gens base i
         ∙ ap (λ (x : List ℕ). sum_of x (gens t)) (candidates_are i (omega arith))
-        ∙ sym (combination_differ w t (gray i) (gray (i + 1)) (trailing_below 32 w (i + 1) (omega arith) (omega arith) (omega arith))
+        ∙ sym (combination_differ w t (gray i) (gray (i + 1)) below (fit t below)
         (gray_step 32 i (omega (arith, pow_mono {i = w} {j = 32} (omega arith)))))
         ∙ ap (λ (k : ℕ). combination gens base w (gray k)) n
 

@@ -3,37 +3,37 @@
 -- Assumes nothing.
 use Prim.Native.Nat.{ℕ, ◌+◌, ◌-◌, ◌%◌, ◌^◌, ◌<◌, ◌≤◌}
 use mathlib.Core.Path.{◌≡◌, sym, ap, subst, ◌∙◌}
-use mathlib.Core.Logic.{◌≢◌, ◌⊎◌, inl, inr, ⊎_elim}
+use mathlib.Core.Logic.{◌≢◌, inl, inr, ⊎_elim}
 use mathlib.Core.List.{List}
 use native.Mathlib.Nat.{mod-eq_of_lt}
 use native.Mathlib.Omega.{arith}
 use lib.Bits.{bit_xor, xor_comm, xor_zero_r}
 use lib.Count.{count_trailing_zeros}
 use lib.Ieee.{Float}
-use lib.ListN.{length}
+use lib.ListN.{length, set, replicate}
 use lib.Pow.{pow_pos}
 use Rattle.lists.specs.Entry.{nth}
 use Rattle.lists.specs.Values.{values}
 use Rattle.lists.proofs.Cases.{same_or_not}
 use Rattle.lists.proofs.Values.{values_at, values_ext}
 use Rattle.field.proofs.Sum.{xor_cancel}
-use Rattle.elimination.specs.Elimination.{reduced}
 use Rattle.elimination.specs.Graph.{Graph}
 use Rattle.elimination.specs.Held.{held}
-use Rattle.elimination.proofs.Infos.{info_inside}
 use Rattle.graph.specs.declared.Code.{Code}
 use Rattle.graph.specs.Parts.{Parts}
 use Rattle.lent.specs.Misencoded.{graph_in}
 use Rattle.words.specs.Encoding.{information_of, encoding, info_symbols}
 use Rattle.words.specs.Linear.{sum_of}
+use Rattle.words.specs.Promise.{Words}
 use Rattle.words.specs.Word.{Word}
 use Rattle.words.proofs.Encodings.{encoding-length, encoding_info, info_at}
-use Rattle.words.proofs.Theorem.{Words}
-use Rattle.words.proofs.Sums.{sum_at, sum_length}
+use Rattle.words.proofs.Sums.{sum_at, multiple_length}
 use Rattle.vectors.specs.Decision.{decision}
 use Rattle.vectors.specs.Vector.{vector}
 use Rattle.vectors.proofs.LikeliestTwo.{two_small, likeliest_decision}
 use Rattle.candidates.specs.Alternatives.{likeliest_at, second_at, difference_at, margin_at}
+use Rattle.candidates.specs.Candidate as Candidate
+use Rattle.candidates.specs.Choices as Choices
 use Rattle.candidates.specs.ListWord.{unit_codeword, base_word, alternatives, slot_of, generator, list_word}
 use Rattle.candidates.specs.Tried.{Tried, beginning, tried}
 use Rattle.candidates.proofs.Slots.{least_inside, difference_small}
@@ -59,7 +59,7 @@ module _ (g : Graph) (order : List ℕ) (posteriors : List Float) where
 
   -- ---- the base and the two values
 
-  pub base-length : length base ≡ g.n
+  base-length : length base ≡ g.n
   unfolding base_word
   base-length = encoding-length g order (values (length positions) first)
 
@@ -100,16 +100,21 @@ module _ (g : Graph) (order : List ℕ) (posteriors : List Float) where
     abbrev gens : ℕ → List ℕ
     gens = generator g order posteriors width
 
+    -- each is as long as the base
+    pub generator-length : (j : ℕ) → length (gens j) ≡ length base
+    unfolding generator unit_codeword
+    generator-length j =
+        multiple_length (difference (slot j)) (unit_codeword g order (slot j)) ∙ encoding-length g order (set (replicate (length positions) 0) (slot j) 1) ∙ sym base-length
+
     pub slot_inside : (j : ℕ) → j < all → slot j < length positions
     unfolding slot_of
     slot_inside j h = least_inside (length positions) (margin_at posteriors (nth positions)) all j (omega arith) h
 
     -- ---- an alternative added to a word
 
-    module _ (x : List ℕ) (long : length x ≡ g.n) (j : ℕ) (few : j < all) (t : ℕ) (h : t < length positions) where
+    module _ (x : List ℕ) (j : ℕ) (few : j < all) (t : ℕ) (h : t < length positions) where
       sum_slot : nth (sum_of x (gens j)) (nth positions t) ≡ bit_xor (nth x (nth positions t)) (nth (gens j) (nth positions t))
-      unfolding information_of
-      sum_slot = sum_at x (gens j) (nth positions t) (omega (arith, info_inside g.n (reduced g order) t h))
+      sum_slot = sum_at x (gens j) (nth positions t)
 
       -- at its slot the difference of the two likeliest values
       pub added_same : t ≡ slot j → nth (sum_of x (gens j)) (nth positions t) ≡ bit_xor (nth x (nth positions t)) (difference t)
@@ -128,42 +133,39 @@ module _ (g : Graph) (order : List ℕ) (posteriors : List Float) where
 
     -- ---- information symbols
 
-    -- a is the likeliest value at slot t, or the second likeliest where an alternative has the slot
-    abbrev pub OneOfTwo : ℕ → ℕ → Type 0
-    OneOfTwo t a = (a ≡ first t) ⊎ ((a ≡ second t) × ((j : ℕ) × (j < all) × (slot j ≡ t)))
+    -- which of the two likeliest values a word has
+    abbrev OneOfTwo : ℕ → ℕ → Type 0
+    OneOfTwo = Choices.OneOfTwo g order posteriors width
 
     -- of a word's information symbols
     abbrev Likely : List ℕ → Type 0
-    Likely x = (length x ≡ g.n) × ((t : ℕ) → t < length positions → OneOfTwo t (nth x (nth positions t)))
+    Likely x = (t : ℕ) → t < length positions → OneOfTwo t (nth x (nth positions t))
 
     changed : (j t a : ℕ) → j < all → t ≡ slot j → OneOfTwo t a → OneOfTwo t (bit_xor a (difference t))
     changed j t a few e (inl q) = inr (ap (λ (y : ℕ). bit_xor y (difference t)) q ∙ to_second t, (j, few, sym e))
     changed j t a few e (inr q) = inl (ap (λ (y : ℕ). bit_xor y (difference t)) q.0 ∙ to_first t)
 
     sum_likely : (x : List ℕ) (j : ℕ) → Likely x → j < all → Likely (sum_of x (gens j))
-    sum_likely x j w few = (
-      sum_length x (gens j) ∙ w.0,
-      λ t h. ⊎_elim
-          (λ e. subst (OneOfTwo t) (sym (added_same x w.0 j few t h e)) (changed j t (nth x (nth positions t)) few e (w.1 t h)))
-          (λ n. subst (OneOfTwo t) (sym (added_other x w.0 j few t h n)) (w.1 t h))
-          (same_or_not t (slot j)),
-    )
+    sum_likely x j w few t h =
+        ⊎_elim
+        (λ e. subst (OneOfTwo t) (sym (added_same x j few t h e)) (changed j t (nth x (nth positions t)) few e (w t h)))
+        (λ n. subst (OneOfTwo t) (sym (added_other x j few t h n)) (w t h))
+        (same_or_not t (slot j))
 
     -- ---- the candidates
 
     module _ (metrics : List Float) where
-      -- the candidate after i steps
-      abbrev pub candidate : ℕ → List ℕ
-      candidate i = (tried metrics gens base i).word
+      abbrev candidate : ℕ → List ℕ
+      candidate = Candidate.candidate g order posteriors width metrics
 
       candidate_likely : width ≤ 16 → (i : ℕ) → i < 2 ^ all → Likely (candidate i)
       candidate_likely few i h =
-          word_keeps metrics gens base Likely i (base-length, λ t l. inl (base_at t l))
+          word_keeps metrics gens base Likely i (λ t l. inl (base_at t l))
           (λ s l x w. sum_likely x (count_trailing_zeros 32 (s + 1)) w (trailing_below 32 all (s + 1) (omega arith) (omega arith) (omega arith)))
 
       pub candidate_symbols : width ≤ 16 → (i : ℕ) → i < 2 ^ all → (t : ℕ) → t < length positions
           → OneOfTwo t (nth (info_symbols g order (candidate i)) t)
-      candidate_symbols few i h t l = subst (OneOfTwo t) (sym (info_at g order (candidate i) t l)) ((candidate_likely few i h).1 t l)
+      candidate_symbols few i h t l = subst (OneOfTwo t) (sym (info_at g order (candidate i) t l)) (candidate_likely few i h t l)
 
       pub list_candidate : (i : ℕ) × (i < 2 ^ all) × (list_word g order posteriors metrics width ≡ candidate i)
       unfolding list_word

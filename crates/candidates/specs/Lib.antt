@@ -3,5 +3,7 @@ pub mod Score
 pub mod Tried
 pub mod ListWord
 pub mod Gray
+pub mod Candidate
+pub mod Choices
 pub mod GeneratorRows
 pub mod HeldWord

@@ -1,11 +1,9 @@
 -- An answer that is a word is no refusal, and a refusal is one.
 -- Assumes nothing.
 use mathlib.Core.Path.{◌≡◌, ap}
-use mathlib.Core.Bool.{Bool, true, false, true≢false, not}
-use lib.Dec.{eqb}
+use mathlib.Core.Bool.{Bool, true, false, true≢false}
 use Rattle.std.specs.Prelude.{Result, Ok, Err}
 use Rattle.calls.specs.declared.Refusal.{Refusal}
-use Rattle.calls.specs.Refusal.{number_of}
 
 abbrev pub Answer : Type 0
 Answer = Result (Unit {0}) Refusal
@@ -23,7 +21,3 @@ refusal_or given (Err r) = r
 
 pub one_refusal : (q r : Refusal) → ◌≡◌ {A = Answer} (Err q) (Err r) → q ≡ r
 one_refusal q r e = ap (refusal_or q) e
-
--- the refusals other than the tenth
-abbrev pub not_ten : Refusal → Bool
-not_ten r = not (eqb (number_of r) 10)

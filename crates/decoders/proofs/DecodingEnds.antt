@@ -28,7 +28,7 @@ use Rattle.rounds.specs.Work as Work
 use Rattle.rounds.specs.GoneOn.{GoneOn}
 use Rattle.decoders.specs.BeliefPropagation as Bp
 use Rattle.decoders.specs.DecodeSoft.{last_decisions, last_posteriors, own_lengths}
-use Rattle.decoders.proofs.ReadyCode.{narrow}
+use Rattle.decoders.proofs.ReadyCode.{narrow, not_wide}
 use Rattle.decoders.proofs.Turned.{tests_code, tests_width, tests_work}
 
 -- ---- after the rounds, by whether one of them satisfied all checks
@@ -54,18 +54,23 @@ module _ (c : Code) (p : Parts) (metrics : List Float) (known limit : ℕ) where
       → Bp.ended_by b ≡ answered (first_of (Bp.all_tests c p metrics known limit h pivots rest)) tt
   ended_answer h pivots rest z b e = by_first b e ∙ ap (λ (t : Option Refusal). answered t tt) (sym (second (Bp.tests c p h pivots rest limit) own z))
 
-  -- from what going on leaves
+  -- what the rounds leave, from what going on leaves
   module _ {r : Ended} {w : List Float} {hard : List ℕ} (g : GoneOn (tanner_in c p) (Bp.start c p metrics known) limit r w hard) where
-    pub gone_satisfied : r.satisfied ≡ leb (Bp.first c p metrics known limit) limit
+    pub gone_answer : {a : Result (Unit {0}) Refusal} → a ≡ Bp.ended_by r.satisfied → a ≡ Bp.ended_by (Bp.satisfied c p metrics known limit)
     unfolding Bp.first
-    gone_satisfied = g.satisfied
+    gone_answer q = q ∙ ap Bp.ended_by g.satisfied
 
     pub gone_rounds : r.rounds ≡ Bp.rounds c p metrics known limit
     unfolding Bp.rounds
     gone_rounds = g.rounds
 
-    pub gone_decided : r.satisfied ≡ true → hard ≡ last_decisions c p metrics known limit
-    gone_decided e = g.decided e ∙ ap (decisions (tanner_in c p) (Bp.start c p metrics known)) gone_rounds
+    pub gone_word : {a : Result (Unit {0}) Refusal} → a ≡ Bp.ended_by r.satisfied → (word x : List ℕ) {new : List ℕ} → hard ≡ take (length word) x → new ≡ written a word (take (length word) x)
+        → new ≡ written a word (last_decisions c p metrics known limit)
+    gone_word q word x e d =
+        let found = last_decisions c p metrics known limit in
+        d ∙ ap (λ (y : Result (Unit {0}) Refusal). written y word (take (length word) x)) q
+        ∙ written_ended r.satisfied word (λ z. sym e ∙ g.decided z ∙ ap (decisions (tanner_in c p) (Bp.start c p metrics known)) gone_rounds)
+        ∙ sym (ap (λ (y : Result (Unit {0}) Refusal). written y word found) q)
 
     pub gone_posted : {posteriors : List Float} → posteriors ≡ chain c.n (Work.posts w) → posteriors ≡ last_posteriors c p metrics known limit
     gone_posted e =
@@ -86,6 +91,11 @@ module _ (l : Held) (h pivots : ℕ) (rest : Bool) (limit : ℕ) {sound : Held} 
       subst (λ (v : Held). 0 < limit → Narrow v.code.m v.parts.row) (sym came.1)
       (narrow limit l.code.m l.parts.row (tests_width l.code l.parts h pivots rest limit came.0))
 
+  pub came_not_wide : 0 < limit → Bp.wide sound.code.m sound.parts.row ≡ false
+  came_not_wide =
+      subst (λ (v : Held). 0 < limit → Bp.wide v.code.m v.parts.row ≡ false) (sym came.1)
+      (not_wide limit l.code.m l.parts.row (tests_width l.code l.parts h pivots rest limit came.0))
+
   pub came_rest : rest ≡ false
   came_rest = (tests_code l.code l.parts h pivots rest limit came.0).1
 
@@ -103,32 +113,27 @@ module _ (l : Held) (h pivots : ℕ) (rest : Bool) (limit : ℕ) {sound : Held} 
   )
 
   -- what the rounds leave, `a` being the answer
-  module _ (metrics : List Float) (known : ℕ) (x : List ℕ) {r : Ended} {w : List Float}
-      (g : GoneOn (tanner_in sound.code sound.parts) (Bp.start sound.code sound.parts metrics known) limit r w (take sound.code.n x))
-      {a : Result (Unit {0}) Refusal} (q : a ≡ Bp.ended_by r.satisfied) where
-    gone : GoneOn (tanner_in l.code l.parts) (Bp.start l.code l.parts metrics known) limit r w (take l.code.n x)
-    gone = subst (λ (v : Held). GoneOn (tanner_in v.code v.parts) (Bp.start v.code v.parts metrics known) limit r w (take v.code.n x)) came.1 g
+  module _ (metrics : List Float) (known : ℕ) {a : Result (Unit {0}) Refusal} (q : a ≡ Bp.ended_by (Bp.satisfied sound.code sound.parts metrics known limit)) where
+    own_answer : a ≡ Bp.ended_by (Bp.satisfied l.code l.parts metrics known limit)
+    own_answer = q ∙ ap (λ (v : Held). Bp.ended_by (Bp.satisfied v.code v.parts metrics known limit)) came.1
 
     pub came_answer : a ≡ answered (first_of (Bp.all_tests l.code l.parts metrics known limit h pivots rest)) tt
-    came_answer = q ∙ ended_answer l.code l.parts metrics known limit h pivots rest came.0 r.satisfied (gone_satisfied l.code l.parts metrics known limit gone)
+    came_answer = own_answer ∙ ended_answer l.code l.parts metrics known limit h pivots rest came.0 (Bp.satisfied l.code l.parts metrics known limit) refl
 
-    pub came_rounds : {k : ℕ} → k ≡ r.rounds → k ≡ counted a (Bp.rounds l.code l.parts metrics known limit)
+    pub came_rounds : {k : ℕ} → k ≡ Bp.rounds sound.code sound.parts metrics known limit → k ≡ counted a (Bp.rounds l.code l.parts metrics known limit)
     came_rounds d =
         let n = Bp.rounds l.code l.parts metrics known limit in
-        d ∙ gone_rounds l.code l.parts metrics known limit gone ∙ sym (ap (λ (y : Result (Unit {0}) Refusal). counted y n) q ∙ posted_ended r.satisfied 0 n)
+        d ∙ ap (λ (v : Held). Bp.rounds v.code v.parts metrics known limit) came.1
+        ∙ sym (ap (λ (y : Result (Unit {0}) Refusal). counted y n) q ∙ posted_ended (Bp.satisfied sound.code sound.parts metrics known limit) 0 n)
 
-    pub came_word : (word : List ℕ) {new : List ℕ} → length word ≡ l.code.n → new ≡ written a word (take (length word) x) → new ≡ written a word (last_decisions l.code l.parts metrics known limit)
-    came_word word n d =
-        let found = last_decisions l.code l.parts metrics known limit in
-        d ∙ ap (λ (y : Result (Unit {0}) Refusal). written y word (take (length word) x)) q
-        ∙ written_ended r.satisfied word (λ z. ap (λ (k : ℕ). take k x) n ∙ gone_decided l.code l.parts metrics known limit gone z)
-        ∙ sym (ap (λ (y : Result (Unit {0}) Refusal). written y word found) q)
+    pub came_word : (word : List ℕ) {new : List ℕ} → new ≡ written a word (last_decisions sound.code sound.parts metrics known limit) → new ≡ written a word (last_decisions l.code l.parts metrics known limit)
+    came_word word d = d ∙ ap (λ (v : Held). written a word (last_decisions v.code v.parts metrics known limit)) came.1
 
-    pub came_posteriors : (given : List Float) {new : List Float} {n : ℕ} → n ≡ l.code.n → new ≡ chain n (Work.posts w) → new ≡ posted a given (last_posteriors l.code l.parts metrics known limit)
-    came_posteriors given n d =
+    pub came_posteriors : (given : List Float) {new : List Float} → new ≡ last_posteriors sound.code sound.parts metrics known limit → new ≡ posted a given (last_posteriors l.code l.parts metrics known limit)
+    came_posteriors given d =
         let found = last_posteriors l.code l.parts metrics known limit in
-        gone_posted l.code l.parts metrics known limit gone (d ∙ ap (λ (k : ℕ). chain k (Work.posts w)) n)
-        ∙ sym (ap (λ (y : Result (Unit {0}) Refusal). posted y given found) q ∙ posted_ended r.satisfied given found)
+        d ∙ ap (λ (v : Held). last_posteriors v.code v.parts metrics known limit) came.1
+        ∙ sym (ap (λ (y : Result (Unit {0}) Refusal). posted y given found) q ∙ posted_ended (Bp.satisfied sound.code sound.parts metrics known limit) given found)
 
 -- ---- without the posteriors
 

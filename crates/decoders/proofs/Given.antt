@@ -15,8 +15,8 @@ use Rattle.vectors.specs.Float32.{zero32}
 use Rattle.candidates.specs.ListWord.{list_word}
 use Rattle.decoders.specs.declared.Decoding.{Decoding}
 use Rattle.decoders.specs.BeliefPropagation as Bp
-use Rattle.decoders.specs.DecodeSoft.{DecodedSoft, soft_answer, last_decisions, last_posteriors, decode_soft}
-use Rattle.decoders.specs.Decode.{decode_answer}
+use Rattle.decoders.specs.DecodeSoft.{DecodedSoft, soft_answer, last_decisions, last_posteriors, decoded_from, decode_soft}
+use Rattle.decoders.specs.Decode.{decode_answer, Decoded, decode}
 use Rattle.decoders.specs.ListDecode.{list_answer, ListDecoded, list_decode}
 
 -- decode_soft
@@ -25,7 +25,7 @@ pub soft_given : (c : Code) (p : Parts) (metrics : List Float) (known limit : �
     → {word' : List ℕ} → word' ≡ written a.answer word (last_decisions c p metrics known limit)
     → {posteriors' : List Float} → posteriors' ≡ posted a.answer posteriors (last_posteriors c p metrics known limit)
     → ◌≡◌ {A = DecodedSoft} (record { answer = a; word = word'; posteriors = posteriors' }) (decode_soft c p metrics known limit word posteriors h pivots vectors)
-unfolding decode_soft
+unfolding decode_soft decoded_from Bp.first Bp.rounds
 soft_given c p metrics known limit word posteriors h pivots vectors {a} e r w q =
     rw (w, q)
     (ap (λ (k : ℕ). record { answer = record { answer = a.answer; rounds = k }; word = written a.answer word (last_decisions c p metrics known limit); posteriors = posted a.answer posteriors (last_posteriors c p metrics known limit) }) r
@@ -42,6 +42,17 @@ decode_given c p metrics known limit word h pivots vectors {a} e r w =
     let long = ap (λ (k : ℕ). soft_answer c p metrics known limit (length word) k h pivots vectors) (sym (length-replicate (c.n * 32) zero32)) in
     let given = soft_given c p metrics known limit word zeros h pivots vectors {a = a} (e ∙ long) r w {posteriors' = posted a.answer zeros (last_posteriors c p metrics known limit)} refl in
     (ap (λ (d : DecodedSoft). d.answer) given, ap (λ (d : DecodedSoft). d.word) given)
+
+-- and its own term
+pub hard_given : (c : Code) (p : Parts) (metrics : List Float) (known limit : ℕ) (word : List ℕ) (h pivots vectors : ℕ)
+    → {a : Decoding} → a.answer ≡ decode_answer c p metrics known limit (length word) h pivots vectors → a.rounds ≡ counted a.answer (Bp.rounds c p metrics known limit)
+    → {word' : List ℕ} → word' ≡ written a.answer word (last_decisions c p metrics known limit)
+    → ◌≡◌ {A = Decoded} (record { answer = a; word = word' }) (decode c p metrics known limit word h pivots vectors)
+unfolding decode
+hard_given c p metrics known limit word h pivots vectors {a} e r w =
+    rw (w)
+    (ap (λ (k : ℕ). record { answer = record { answer = a.answer; rounds = k }; word = written a.answer word (last_decisions c p metrics known limit) }) r
+    ∙ ap (λ (x : Result (Unit {0}) Refusal). record { answer = record { answer = x; rounds = counted x (Bp.rounds c p metrics known limit) }; word = written x word (last_decisions c p metrics known limit) }) e)
 
 -- list_decode
 pub list_given : (c : Code) (p : Parts) (metrics posteriors : List Float) (width : ℕ) (word : List ℕ) (matrix pivots : ℕ)

@@ -7,6 +7,8 @@ pub mod ReadyCode
 pub mod DecodingEnds
 pub mod Given
 pub mod ListRunning
-pub mod Theorem
+pub mod FromEnds
+pub mod FromState
 pub mod ListTheorem
+pub mod Theorem
 pub mod Starred

@@ -1,5 +1,4 @@
--- The theorem about list decoding, over all codes, metrics, posteriors and widths together. Demand 3: "every word accepted by either decoder is one". And what the word
--- is among: the best of the candidates, which are the words whose information symbols are the likeliest, but at the least sure slots perhaps the second likeliest.
+-- What is promised of list decoding holds: a call that no refusal turns down finds the best of the candidates, and a word of the code.
 -- Assumes nothing.
 use Prim.Native.Nat.{ℕ, ◌+◌, ◌-◌, ◌*◌, ◌^◌, ◌<◌, ◌≤◌}
 use mathlib.Core.Path.{◌≡◌, sym, ap, subst, ◌∙◌}
@@ -13,10 +12,9 @@ use lib.Ieee.Scale.{finite}
 use lib.ListN.{length}
 use lib.Pow.{pow_mono, pow_pos}
 use Rattle.lists.specs.Entry.{nth}
-use Rattle.lists.specs.Values.{values}
+use Rattle.lists.specs.Ordered.{Ordered}
 use Rattle.lists.proofs.AnyBelow.{any_below_not}
 use Rattle.lists.proofs.Cases.{neither}
-use Rattle.lists.proofs.InOrder.{Ordered}
 use Rattle.std.specs.Prelude.{Option, None, Ok}
 use Rattle.calls.specs.declared.Refusal.{Refusal}
 use Rattle.calls.specs.declared.Refusal.TheVariants.{Value}
@@ -30,22 +28,24 @@ use Rattle.lent.specs.Misencoded.{graph_in}
 use Rattle.lent.specs.LentCode.{code_refusals}
 use Rattle.lent.specs.Sound.{IsSound}
 use Rattle.lent.proofs.SoundCode.{passed, not_refused}
-use Rattle.words.specs.Encoding.{information_of, encoding, info_symbols}
+use Rattle.words.specs.Encoding.{information_of, info_symbols}
 use Rattle.words.specs.Word.{Word}
 use Rattle.words.proofs.LentWords.{positions-length, positions_at, positions_inside}
 use Rattle.words.proofs.Theorem.{words}
-use Rattle.vectors.specs.Decision.{decision}
 use Rattle.vectors.specs.Vector.{at, vector}
 use Rattle.vectors.proofs.Stored.{vector-at}
 use Rattle.candidates.specs.Alternatives.{margin_at, before, least_sure}
+use Rattle.candidates.specs.Candidate.{candidate}
+use Rattle.candidates.specs.Choices.{OneOfTwo}
 use Rattle.candidates.specs.ListWord.{base_word, alternatives, generator, list_word}
 use Rattle.candidates.specs.Tried.{tried}
 use Rattle.candidates.proofs.BestCandidate.{best}
-use Rattle.candidates.proofs.Choices.{Chosen, slots_distinct, each_chosen}
+use Rattle.candidates.proofs.Choices.{slots_distinct, each_chosen}
 use Rattle.candidates.proofs.LeastSure.{Ordered-least_sure}
-use Rattle.candidates.proofs.ListWords.{OneOfTwo, candidate, candidate_encoding, list_symbols, list_none, Word-list_word}
+use Rattle.candidates.proofs.ListWords.{candidate_encoding, list_symbols, list_none, Word-list_word}
 use Rattle.decoders.specs.declared.Decoding.{Decoding}
 use Rattle.decoders.specs.ListDecode.{list_lengths, not_finite, unlistable, ListDecoded, list_decode}
+use Rattle.decoders.specs.ListDecodes as Specs
 
 module _ (c : Code) (p : Parts) (metrics posteriors : List Float) (width : ℕ) (word : List ℕ) (matrix pivots : ℕ) where
   -- what the call gives, matrix and pivots being the lengths of the work parts
@@ -81,31 +81,12 @@ module _ (c : Code) (p : Parts) (metrics posteriors : List Float) (width : ℕ) 
   abbrev number : Option Refusal
   number = first_of (code_refusals c p matrix pivots rest ++ own_tests)
 
-  -- no refusal turns the call down
-  abbrev pub Passes : Type 0
-  Passes = number ≡ None
+  -- that no refusal turns it down, and what is then promised of it
+  abbrev Passes : Type 0
+  Passes = Specs.Passes c p metrics posteriors width word matrix pivots
 
-  pub record ListDecodes : Type 0 where
-    -- it accepts, without a round
-    pub accepts : d.answer.answer ≡ Ok tt
-    pub no_rounds : d.answer.rounds ≡ 0
-    -- the word is a word of the code
-    pub is_word : Word g d.word
-    -- it is one of the candidates, of which there are at most 2 ^ width, and no candidate's running score is greater
-    pub few : 2 ^ all ≤ 2 ^ width
-    pub place : ℕ
-    pub inside : place < 2 ^ all
-    pub candidate_is : d.word ≡ tries place
-    pub most : (i : ℕ) → i < 2 ^ all → lt (scored place) (scored i) ≡ false
-    -- each candidate is the encoding of its information symbols, and these are the likeliest, or at the slot of an alternative the second likeliest
-    pub encodings : (i : ℕ) → tries i ≡ encoding g order (info_symbols g order (tries i))
-    pub symbols : (t : ℕ) → t < length positions → OneOfTwo g order posteriors width t (nth (info_symbols g order d.word) t)
-    -- the slots of the alternatives are the least sure: ascending by margin, equal ones in slot order, and all other slots come after them
-    pub ordered : Ordered (length positions) (before (margin_at posteriors (nth positions))) all (least_sure (length positions) (margin_at posteriors (nth positions)) all)
-    -- and every choice of the likeliest or the second at each of them is a candidate
-    pub choices : (k : ℕ) → k < 2 ^ all → (i : ℕ) × (i < 2 ^ all) × Chosen g order posteriors width k (tries i)
-    -- with width 0 it is the encoding of the likeliest symbols
-    pub none : width ≡ 0 → d.word ≡ encoding g order (values (length positions) (λ t. decision (vector posteriors (nth positions t))))
+  abbrev ListDecodes : Type 0
+  ListDecodes = Specs.ListDecodes c p metrics posteriors width word matrix pivots
 
   -- ---- what the tests leave
 
@@ -174,6 +155,9 @@ module _ (c : Code) (p : Parts) (metrics posteriors : List Float) (width : ℕ) 
         }
 
   -- every call that accepts passes the tests
-  pub accepted : d.answer.answer ≡ Ok tt → ListDecodes
+  pub accepted_passes : d.answer.answer ≡ Ok tt → Passes
   unfolding list_decode
-  accepted z = list_decodes (Refusals.by_ok number tt (sym z)).0
+  accepted_passes z = (Refusals.by_ok number tt (sym z)).0
+
+  pub accepted : d.answer.answer ≡ Ok tt → ListDecodes
+  accepted z = list_decodes (accepted_passes z)

@@ -23,11 +23,15 @@ use Rattle.rounds.specs.GoneOn.{GoneOn}
 use Rattle.decoders.specs.BeliefPropagation.{start, wide}
 
 -- with a round or more, no check has more than 32 edges
-pub narrow : (limit m : ℕ) (row : List ℕ) → (ltb 0 limit && wide m row) ≡ false → 0 < limit → Narrow m row
+pub not_wide : (limit m : ℕ) (row : List ℕ) → (ltb 0 limit && wide m row) ≡ false → 0 < limit → wide m row ≡ false
+not_wide limit m row e h = sym (ap (λ (b : Bool). b && wide m row) (lt-ltb 0 limit h)) ∙ e
+
+pub not_wide_narrow : (m : ℕ) (row : List ℕ) → wide m row ≡ false → Narrow m row
 unfolding wide
-narrow limit m row e h c l =
-    let q : wide m row ≡ false = sym (ap (λ (b : Bool). b && wide m row) (lt-ltb 0 limit h)) ∙ e in
-    omega (arith, ltb-false 32 (nth row (c + 1) - nth row c) (any_below_not m c (λ i. ltb 32 (nth row (i + 1) - nth row i)) q l))
+not_wide_narrow m row e c l = omega (arith, ltb-false 32 (nth row (c + 1) - nth row c) (any_below_not m c (λ i. ltb 32 (nth row (i + 1) - nth row i)) e l))
+
+pub narrow : (limit m : ℕ) (row : List ℕ) → (ltb 0 limit && wide m row) ≡ false → 0 < limit → Narrow m row
+narrow limit m row e h = not_wide_narrow m row (not_wide limit m row e h)
 
 -- the state that rounds begin from, by the positions that the code lends
 pub gone_start : (c : Code) (p : Parts) → IsSound c p → (metrics : List Float) (known limit : ℕ) (r : Ended) (w : List Float) (hard : List ℕ)

@@ -58,12 +58,13 @@ use Rattle.rounds.specs.VariableStep.{gathered, posterior}
 use Rattle.rounds.specs.Round.{State, answers, posteriors}
 use Rattle.rounds.specs.Begin.{past_known, channels, begin}
 use Rattle.rounds.specs.Rounds.{after, posteriors_after, decisions, satisfies}
-use Rattle.rounds.proofs.KnownRounds.{known_posterior}
+use Rattle.rounds.proofs.KnownRounds.{known_posterior, known_begun}
 use Rattle.rounds.specs.Work.{vectors_length}
 use Rattle.decoders.specs.BeliefPropagation.{start, wide}
 use Rattle.decoders.specs.DecodeSoft.{decode_soft}
+use Rattle.decoders.specs.Decodes.{Decodes}
 use Rattle.decoders.proofs.Answers.{Answer}
-use Rattle.decoders.proofs.Theorem.{Decodes, fitting_comes, decodes}
+use Rattle.decoders.proofs.Theorem.{fitting_comes, decodes}
 
 -- ---- the floats, computed
 
@@ -211,10 +212,10 @@ module _ (rank : ℕ) (p : Parts) (ok : NotRefused (one_edge rank) p) (known : �
       ∙ flat
 
   decided_zero : decision (posteriors t s 0) ≡ 0
-  unfolding start begin channels
+  unfolding start begin
   decided_zero =
       ⊎_elim
-      (λ e. known_posterior t s 0 (pick-true (past_known positions known 0) known_zero (channel (vector flat_metrics 0)) e))
+      (λ e. known_posterior t s 0 (known_begun positions flat_metrics known 0 e))
       unknown
       (true_or_false (past_known positions known 0))
 

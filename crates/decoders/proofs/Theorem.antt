@@ -1,50 +1,51 @@
--- The theorem about belief propagation, over all codes, metrics, known counts and limits together. Demand 3: "accepts exactly when one of demand 2's rounds up to the
--- limit satisfies all checks; its word is the decisions of the first that does, and the reported count is that round's".
+-- What is promised of the decoders holds, of belief propagation by its rounds: it accepts exactly where one of them up to the limit satisfies all checks, with the decisions of
+-- the first that does. Of list decoding: ListTheorem.
 -- Assumes nothing.
 use Prim.Native.Nat.{ℕ, ◌+◌, ◌*◌, ◌<◌, ◌≤◌}
-use mathlib.Core.Path.{◌≡◌, refl, sym, ap, ◌∙◌}
-use mathlib.Core.Bool.{Bool, true, false, true≢false, ◌&&◌}
+use mathlib.Core.Path.{◌≡◌, refl, sym, ap, subst, ◌∙◌}
+use mathlib.Core.Bool.{Bool, false, ◌&&◌}
 use mathlib.Core.List.{List, [], ◌∷◌}
-use mathlib.Core.Logic.{◌≢◌, ⊎_elim}
 use native.Mathlib.Omega.{arith}
-use borrow.Author.Tests.{le-leb, lt-leb, le-ltb, lt-ltb}
-use lib.Dec.{T, leb, ltb}
+use lib.Dec.{ltb}
 use lib.Ieee.{Float, nan}
-use lib.ListN.{length}
+use lib.ListN.{length, replicate}
 use Rattle.lists.specs.Chain.{chain}
 use Rattle.lists.specs.Entry.{nth}
-use Rattle.lists.proofs.Cases.{less_or_not}
 use Rattle.lists.proofs.Chain.{start_even, chain_at}
-use Rattle.lists.proofs.Choice.{pick-true, pick-false}
-use Rattle.lists.proofs.Lowest.{IsLowest, lowest_is}
-use Rattle.std.specs.Prelude.{Option, None, Some, Result, Ok, Err}
+use Rattle.std.specs.Prelude.{Ok, Err}
 use Rattle.calls.specs.declared.Refusal.{Refusal}
-use Rattle.calls.specs.declared.Refusal.TheVariants.{Size, Length, Malformed, Misencoded, WideCheck, NoWord}
-use Rattle.calls.specs.Refusal.{first_of, answered, misfits, misfit}
-use Rattle.calls.specs.Parts.{written, posted, counted}
+use Rattle.calls.specs.declared.Refusal.TheVariants.{WideCheck, NoWord}
+use Rattle.calls.specs.Refusal.{number_of, misfit}
 use Rattle.calls.proofs.Refusals as Refusals
 use Rattle.elimination.specs.Held.{held}
 use Rattle.elimination.proofs.Infos.{info_inside}
 use Rattle.graph.specs.declared.Code.{Code}
 use Rattle.graph.specs.Parts.{Parts}
-use Rattle.graph.specs.Sizes.{too_large, code_lengths}
-use Rattle.lent.specs.Malformed.{malformed}
-use Rattle.lent.specs.Misencoded.{graph_in, reduced_in, misencoded}
+use Rattle.lent.specs.Misencoded.{graph_in, reduced_in}
 use Rattle.lent.specs.LentCode.{NotRefused, matrix_lengths, code_refusals}
+use Rattle.lent.proofs.SoundCode.{call_passes}
 use Rattle.words.specs.Encoding.{information_of}
-use Rattle.words.specs.Word.{Word}
-use Rattle.words.proofs.CheckSums.{all_satisfied-true}
-use Rattle.vectors.specs.Fine.{fine, Fine}
+use Rattle.vectors.specs.Fine.{Fine}
+use Rattle.vectors.specs.Float32.{zero32}
 use Rattle.vectors.specs.Vector.{Vector, at}
 use Rattle.rounds.specs.Tanner.{Tanner, tanner_in}
 use Rattle.rounds.specs.Round.{State}
 use Rattle.rounds.specs.Begin.{begin}
-use Rattle.rounds.specs.Rounds.{posteriors_after, decisions, satisfies, first_satisfied, rounds_made}
+use Rattle.rounds.specs.Rounds.{posteriors_after, decisions}
+use Rattle.rounds.proofs.ByRounds.{decisions-zero}
 use Rattle.rounds.proofs.FineRounds.{channels_fine, posteriors_after-length, posteriors_after_fine}
-use Rattle.rounds.proofs.KnownRounds.{known_channel, known_decided, decisions-length, decisions_at, decisions_small}
-use Rattle.decoders.specs.BeliefPropagation.{start, first, rounds, wide, tests, all_tests}
-use Rattle.decoders.specs.DecodeSoft.{DecodedSoft, own_lengths, last_decisions, last_posteriors, decode_soft}
-use Rattle.decoders.proofs.Answers.{done_not_refused, one_refusal, not_ten}
+use Rattle.rounds.proofs.KnownRounds.{known_channel}
+use Rattle.decoders.specs.declared.Decoding.{Decoding}
+use Rattle.decoders.specs.BeliefPropagation.{start, wide, tests}
+use Rattle.decoders.specs.DecodeSoft.{DecodedSoft, own_lengths, decode_soft}
+use Rattle.decoders.specs.Decode.{Decoded, decode}
+use Rattle.decoders.specs.Decodes as Specs
+use Rattle.decoders.specs.Promise.{Promised}
+use Rattle.decoders.specs.Propagates.{Propagates}
+use Rattle.decoders.proofs.Answers.{done_not_refused, one_refusal}
+use Rattle.decoders.proofs.FromState as From
+use Rattle.decoders.proofs.Given.{decode_given}
+use Rattle.decoders.proofs.ListTheorem.{list_decodes, accepted_passes}
 
 -- n vectors one after another, read back
 vectors_at : (n : ℕ) (f : ℕ → Vector) → ((v : ℕ) → length (f v) ≡ 32) → (v x : ℕ) → v < n → x < 32 → at (chain n f) (v * 32 + x) ≡ at (f v) x
@@ -70,61 +71,27 @@ module _ (c : Code) (p : Parts) (metrics : List Float) (known limit : ℕ) (word
   abbrev rest : Bool
   rest = misfit (own_lengths c (length metrics) (length word) (length given) vectors)
 
-  -- the numbers 2 to 9 do not turn the call down
-  abbrev pub ComesToRounds : Type 0
-  ComesToRounds = first_of (tests c p matrix pivots rest limit) ≡ None
+  -- that it comes to its rounds, and what is then promised of it
+  abbrev ComesToRounds : Type 0
+  ComesToRounds = Specs.ComesToRounds c p metrics known limit word given matrix pivots vectors
 
-  pub record Decodes : Type 0 where
-    -- it accepts where a round up to the limit satisfies all checks
-    pub accepts : (r : ℕ) → 1 ≤ r → r ≤ limit → satisfies t s r ≡ true → d.answer.answer ≡ Ok tt
-    -- and only there; the count is that of the first such round
-    pub counts : d.answer.answer ≡ Ok tt → (1 ≤ d.answer.rounds) × (d.answer.rounds ≤ limit) × (satisfies t s d.answer.rounds ≡ true)
-    pub earliest : d.answer.answer ≡ Ok tt → (q : ℕ) → 1 ≤ q → q < d.answer.rounds → satisfies t s q ≡ false
-    -- the word is that round's decisions, and a word of the code
-    pub decided : d.answer.answer ≡ Ok tt → d.word ≡ decisions t s d.answer.rounds
-    pub is_word : d.answer.answer ≡ Ok tt → Word (graph_in c p) d.word
-    -- zero at every information position past the known count
-    pub zeros : d.answer.answer ≡ Ok tt → (i : ℕ) → known ≤ i → i < length positions → nth d.word (nth positions i) ≡ 0
-    -- otherwise the number is 10, the count is the limit, no round up to it satisfies all checks, and the word part is as it was
-    pub refused : d.answer.answer ≢ Ok tt → (d.answer.answer ≡ Err NoWord) × (d.answer.rounds ≡ limit) × (d.word ≡ word)
-    pub none : d.answer.answer ≢ Ok tt → (q : ℕ) → 1 ≤ q → q ≤ limit → satisfies t s q ≡ false
-    -- either way the posteriors are finite and not negative
-    pub finite : (v x : ℕ) → v < c.n → x < 32 → T (fine (at d.posteriors (v * 32 + x)))
-    -- and so they are in every round, in which a known zero is decided 0
-    pub rounds_finite : (r v : ℕ) → Fine (posteriors_after t s r v)
-    pub rounds_zeros : (r i : ℕ) → known ≤ i → i < length positions → nth (decisions t s r) (nth positions i) ≡ 0
+  abbrev Decodes : Type 0
+  Decodes = Specs.Decodes c p metrics known limit word given matrix pivots vectors
 
-  -- ---- the number
-
-  -- the first round that satisfies all checks
-  abbrev f : ℕ
-  f = first c p metrics known limit
-
-  first_is : IsLowest (satisfies t s) limit 1 f
-  unfolding first first_satisfied
-  first_is = lowest_is (satisfies t s) limit 1
-
-  abbrev number : Option Refusal
-  number = first_of (all_tests c p metrics known limit matrix pivots rest)
+  -- the tests before the rounds
+  abbrev early : List (Bool × Refusal)
+  early = tests c p matrix pivots rest limit
 
   -- "Unless refused by a number other than 10" it comes to its rounds
-  pub comes : ((r : Refusal) → r ≢ NoWord → d.answer.answer ≢ Err r) → ComesToRounds
+  pub comes : ((r : Refusal) → d.answer.answer ≡ Err r → number_of r ≡ 10) → ComesToRounds
   unfolding decode_soft
-  comes n = go (first_of (tests c p matrix pivots rest limit)) refl
-    where
-      go : (t : Option Refusal) → first_of (tests c p matrix pivots rest limit) ≡ t → t ≡ None
-      go None e = refl
-      go (Some r) e =
-          absurd
-          (n r (λ q. true≢false (sym (Refusals.first_class not_ten (tests c p matrix pivots rest limit) tt e) ∙ ap not_ten q))
-          (ap (λ (t : Option Refusal). answered t tt) (Refusals.stays (tests c p matrix pivots rest limit) ((ltb limit (first c p metrics known limit), NoWord) ∷ []) e)))
+  comes = From.comes early tt t s limit word given
 
   -- so does every call on a code that is not refused, with parts of the right lengths and, where a round may be made, no check of degree above 32
   pub fitting_comes : NotRefused c p → Refusals.Alike (matrix_lengths matrix pivots) → Refusals.Alike (own_lengths c (length metrics) (length word) (length given) vectors) → (ltb 0 limit && wide c.m p.row) ≡ false → ComesToRounds
   fitting_comes ok a b w =
-      let z = Refusals.fitting (matrix_lengths matrix pivots) rest a (Refusals.fitting (own_lengths c (length metrics) (length word) (length given) vectors) false b refl) in
       Refusals.second (code_refusals c p matrix pivots rest) ((ltb 0 limit && wide c.m p.row, WideCheck) ∷ [])
-      (ap (λ (r : Bool). first_of ((too_large c.n c.m, Size) ∷ (misfits (code_lengths p) r, Length) ∷ (malformed c p, Malformed) ∷ (misencoded c p, Misencoded) ∷ [])) z ∙ ok)
+      (call_passes c p matrix pivots rest ok a (Refusals.fitting (own_lengths c (length metrics) (length word) (length given) vectors) false b refl))
       ∙ sym (Refusals.first_miss WideCheck [] refl w refl)
 
   -- the posteriors of round r
@@ -132,117 +99,74 @@ module _ (c : Code) (p : Parts) (metrics : List Float) (known limit : ℕ) (word
   unfolding start begin
   every_fine r v = posteriors_after_fine t s v (channels_fine positions metrics known v) r
 
-  module _ (e : ComesToRounds) where
-    number_is : number ≡ first_of ((ltb limit f, NoWord) ∷ [])
-    number_is = Refusals.second (tests c p matrix pivots rest limit) ((ltb limit f, NoWord) ∷ []) e
+  -- the later information positions begin as known zeros
+  pub begun_known : From.KnownPast c p s known
+  unfolding start
+  begun_known = known_channel t positions metrics known
 
-    abbrev answer : Option Refusal → Result (Unit {0}) Refusal
-    answer t = answered t tt
-
-    -- ---- where a round up to the limit satisfies all checks
-
-    module _ (h : f ≤ limit) where
-      hit : number ≡ None
-      hit = number_is ∙ sym (Refusals.first_miss NoWord [] refl (le-ltb limit f h) refl)
-
-      hit_answer : d.answer.answer ≡ Ok tt
-      unfolding decode_soft
-      hit_answer = ap answer hit
-
-      hit_rounds : rounds c p metrics known limit ≡ f
-      unfolding rounds rounds_made first
-      hit_rounds = pick-true (leb f limit) f limit (le-leb f limit h)
-
-      hit_count : d.answer.rounds ≡ f
-      unfolding decode_soft
-      hit_count = ap (λ (t : Option Refusal). counted (answer t) (rounds c p metrics known limit)) hit ∙ hit_rounds
-
-      hit_word : d.word ≡ decisions t s f
-      unfolding decode_soft
-      hit_word = ap (λ (t : Option Refusal). written (answer t) word (last_decisions c p metrics known limit)) hit ∙ ap (decisions t s) hit_rounds
-
-      hit_satisfies : satisfies t s f ≡ true
-      hit_satisfies = first_is.found (omega arith)
-
-    -- ---- and where none does
-
-    module _ (h : limit < f) where
-      miss : number ≡ Some NoWord
-      miss = number_is ∙ sym (Refusals.first_hit [] refl (lt-ltb limit f h))
-
-      miss_answer : d.answer.answer ≡ Err NoWord
-      unfolding decode_soft
-      miss_answer = ap answer miss
-
-      miss_count : d.answer.rounds ≡ limit
-      unfolding decode_soft rounds rounds_made first
-      miss_count =
-          ap (λ (t : Option Refusal). counted (answer t) (rounds c p metrics known limit)) miss
-          ∙ pick-false (leb f limit) f limit (lt-leb f limit h)
-
-      miss_word : d.word ≡ word
-      unfolding decode_soft
-      miss_word = ap (λ (t : Option Refusal). written (answer t) word (last_decisions c p metrics known limit)) miss
-
-      not_done : d.answer.answer ≢ Ok tt
-      not_done z = done_not_refused NoWord (sym z ∙ miss_answer)
-
-    -- it accepts where there is such a round, and only there
-    done : d.answer.answer ≡ Ok tt → f ≤ limit
-    done z = ⊎_elim (λ h. absurd (not_done h z)) (λ h. h) (less_or_not limit f)
-
-    not_found : d.answer.answer ≢ Ok tt → limit < f
-    not_found z = ⊎_elim (λ h. h) (λ h. absurd (z (hit_answer h))) (less_or_not limit f)
-
-    -- ---- the posteriors
-
-    abbrev last : ℕ → Vector
-    last = posteriors_after t s (rounds c p metrics known limit)
-
-    posteriors_are : d.posteriors ≡ chain c.n last
-    unfolding decode_soft
-    posteriors_are =
-        ⊎_elim
-        (λ h. ap (λ (t : Option Refusal). posted (answer t) given (last_posteriors c p metrics known limit)) (miss h))
-        (λ h. ap (λ (t : Option Refusal). posted (answer t) given (last_posteriors c p metrics known limit)) (hit h))
-        (less_or_not limit f)
-
-    all_fine : (v x : ℕ) → v < c.n → x < 32 → T (fine (at d.posteriors (v * 32 + x)))
-    all_fine v x h l = rw (posteriors_are, vectors_at c.n last (posteriors_after-length t s (rounds c p metrics known limit)) v x h l) (every_fine (rounds c p metrics known limit) v x l)
-
-  -- ---- the decisions of round r
-
-  decisions_word : (r : ℕ) → satisfies t s r ≡ true → Word (graph_in c p) (decisions t s r)
-  unfolding satisfies held
-  decisions_word r e = record {
-    symbols = record { long = decisions-length t s r; small = decisions_small t s r };
-    satisfied = (all_satisfied-true (graph_in c p) (decisions t s r)).0 e;
-  }
-
-  decisions-zero : (r i : ℕ) → known ≤ i → i < length positions → nth (decisions t s r) (nth positions i) ≡ 0
-  unfolding start information_of held
-  decisions-zero r i a b =
-      decisions_at t s r (nth positions i) (info_inside c.n (reduced_in c p) i b)
-      ∙ known_decided t s (nth positions i) (known_channel t positions metrics known i a b) r
+  every_zero : (r i : ℕ) → known ≤ i → i < length positions → nth (decisions t s r) (nth positions i) ≡ 0
+  unfolding information_of held
+  every_zero r i a b = decisions-zero t s r (nth positions i) (info_inside c.n (reduced_in c p) i b) (begun_known i a b)
 
   pub decodes : ComesToRounds → Decodes
-  decodes e = record {
-    accepts = λ r a b y. ⊎_elim (λ h. absurd (true≢false (sym y ∙ first_is.none r a (omega arith)))) (hit_answer e) (less_or_not limit f);
-    counts = λ z. let h = done e z in rw (hit_count e h) (first_is.from, h, hit_satisfies e h);
-    earliest = λ z. let h = done e z in rw (hit_count e h) first_is.none;
-    decided = λ z. let h = done e z in hit_word e h ∙ ap (decisions t s) (sym (hit_count e h));
-    is_word = λ z. let h = done e z in rw (hit_word e h) (decisions_word f (hit_satisfies e h));
-    zeros = λ z i a b. ap (λ (w : List ℕ). nth w (nth positions i)) (hit_word e (done e z)) ∙ decisions-zero f i a b;
-    refused = λ z. let h = not_found e z in (miss_answer e h, miss_count e h, miss_word e h);
-    none = λ z q a b. first_is.none q a (omega (arith, not_found e z));
-    finite = all_fine e;
-    rounds_finite = every_fine;
-    rounds_zeros = decisions-zero;
-  }
+  unfolding decode_soft
+  decodes e =
+      let w = From.decodes early tt t s limit word given e in
+      let q = w.rounds in
+      record {
+        accepts = λ r a b y. q.exactly.1 (r, record { from = a; upto = b; satisfied = y });
+        counts = λ z. let n = q.counted z in (n.from, n.upto, n.satisfied);
+        earliest = q.earliest;
+        decided = q.decided;
+        is_word = q.is_word;
+        zeros = λ z i a b. ap (λ (x : List ℕ). nth x (nth positions i)) (q.decided z) ∙ every_zero d.answer.rounds i a b;
+        refused = λ z. ((w.refused z).0, q.limited z, (w.refused z).1);
+        none = q.none;
+        finite = λ v x h l.
+            rw (w.posteriors, vectors_at c.n (posteriors_after t s d.answer.rounds) (posteriors_after-length t s d.answer.rounds) v x h l)
+            (every_fine d.answer.rounds v x l);
+        rounds_finite = every_fine;
+        rounds_zeros = every_zero;
+      }
 
   -- so of every call that accepts, and of every one that 10 turns down
   pub accepted : d.answer.answer ≡ Ok tt → Decodes
-  accepted z = decodes (comes (λ r n q. done_not_refused r (sym z ∙ q)))
+  accepted z = decodes (comes (λ r q. absurd (done_not_refused r (sym z ∙ q))))
 
   pub under_ten : d.answer.answer ≡ Err NoWord → Decodes
-  under_ten z = decodes (comes (λ r n q. n (one_refusal r NoWord (sym q ∙ z))))
+  under_ten z = decodes (comes (λ r q. ap number_of (one_refusal r NoWord (sym q ∙ z))))
+
+  -- ---- by its answer, its count and its word
+
+  pub soft_propagates : Propagates c p s known limit d.answer.answer d.answer.rounds d.word
+  unfolding decode_soft
+  soft_propagates = From.from_propagates c p s known begun_known early tt limit word given
+
+-- and of the one without posteriors
+module _ (c : Code) (p : Parts) (metrics : List Float) (known limit : ℕ) (word : List ℕ) (h pivots vectors : ℕ) where
+  -- what it gives, and what the other does with a part of zeros
+  abbrev hard : Decoded
+  hard = decode c p metrics known limit word h pivots vectors
+
+  abbrev soft : DecodedSoft
+  soft = decode_soft c p metrics known limit word (replicate (c.n * 32) zero32) h pivots vectors
+
+  hard_same : (hard.answer ≡ soft.answer) × (hard.word ≡ soft.word)
+  unfolding decode
+  hard_same = decode_given c p metrics known limit word h pivots vectors {a = hard.answer} refl refl refl
+
+  pub hard_propagates : Propagates c p (start c p metrics known) known limit hard.answer.answer hard.answer.rounds hard.word
+  hard_propagates =
+      subst (λ (a : Decoding). Propagates c p (start c p metrics known) known limit a.answer a.rounds hard.word) (sym hard_same.0)
+      (subst (Propagates c p (start c p metrics known) known limit soft.answer.answer soft.answer.rounds) (sym hard_same.1)
+      (soft_propagates c p metrics known limit word (replicate (c.n * 32) zero32) h pivots vectors))
+
+pub promise : Promised
+promise c p metrics known limit likely width word posteriors h pivots vectors = record {
+  comes = comes c p metrics known limit word posteriors h pivots vectors;
+  decodes = decodes c p metrics known limit word posteriors h pivots vectors;
+  soft_rounds = soft_propagates c p metrics known limit word posteriors h pivots vectors;
+  hard_rounds = hard_propagates c p metrics known limit word h pivots vectors;
+  list_passes = accepted_passes c p metrics likely width word h pivots;
+  list_decodes = list_decodes c p metrics likely width word h pivots;
+}

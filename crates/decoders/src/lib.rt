@@ -1,4 +1,4 @@
-// The decoders of a lent code. The public calls of document 01's part 4 stand here.
+// The decoders of a lent code. The public calls stand here; the two modules that are public have what they do on a code that passed its tests.
 #![tactic(auto)]
 
 ghost use Rattle.std.specs.Prelude.{◌≡◌, length};
@@ -10,13 +10,14 @@ ghost use Rattle.decoders.specs.BeliefPropagation.{rounds};
 ghost use Rattle.decoders.specs.DecodeSoft.{soft_answer, last_decisions, last_posteriors};
 ghost use Rattle.decoders.specs.Decode.{decode_answer};
 ghost use Rattle.decoders.specs.ListDecode.{list_answer};
+ghost use Rattle.decoders.specs.Promise.{Promised};
 
 use calls::Refusal;
 use lent::Lent;
 use rounds::rows::VECTORS;
 
-mod belief_propagation;
-mod list_decoding;
+pub mod belief_propagation;
+pub mod list_decoding;
 mod output;
 mod refusals;
 
@@ -28,7 +29,7 @@ pub struct Decoding {
 }
 
 // Belief propagation: the decisions of the first round up to the limit that satisfies all checks, and the last round's posteriors. `soft_given` (proofs/Given.antt) makes
-// of the clauses the one term of which the theorem speaks (proofs/Theorem.antt).
+// of the clauses the one term of which the promise speaks (specs/Decodes.antt).
 pub fn decode_soft(
     code: &Lent,
     metrics: &[f32],
@@ -57,10 +58,9 @@ pub fn decode_soft(
             rounds: 0,
         },
         Ok(sound) => {
-            let ended = belief_propagation::run(&sound, metrics, known, limit, h, vectors);
-            output::copy_posteriors(code.numbers.n, vectors, posteriors);
-            vectors.fill(0.0);
-            output::finish(ended, h, word)
+            belief_propagation::propagate(
+                &sound, metrics, known, limit, word, posteriors, h, vectors,
+            )
         }
     }
 }
@@ -125,8 +125,8 @@ fn listed(
 }
 
 // List decoding: the information symbols at their likeliest values by the posteriors, the `width` least sure of them also at the second likeliest, every combination
-// encoded and scored by the metrics; the best of these words. `list_given` (proofs/Given.antt) makes of the clauses the one term of which the theorem speaks
-// (proofs/ListTheorem.antt).
+// encoded and scored by the metrics; the best of these words. `list_given` (proofs/Given.antt) makes of the clauses the one term of which the promise speaks
+// (specs/ListDecodes.antt).
 pub fn list_decode(
     code: &Lent,
     metrics: &[f32],
@@ -147,3 +147,8 @@ pub fn list_decode(
         rounds: 0,
     }
 }
+
+// What is promised of the decoders: a promise alone, and no code.
+pub fn promise()
+    ensures { Promised }
+{}

@@ -7,6 +7,7 @@ ghost use Rattle.vectors.specs.Float32.{zero32};
 ghost use Rattle.decoders.specs.BeliefPropagation.{wide, tests};
 ghost use Rattle.decoders.specs.ListDecode.{not_finite};
 
+use crate::belief_propagation;
 use calls::Refusal;
 use lent::{Lent, Sound};
 
@@ -56,7 +57,7 @@ fn narrow<'s, 'a>(
     ensures pivots_after { pivots.new ≡ worked result 0 pivots.old }
 {
     let sound = code.accepted(h, pivots, rest)?;
-    if limit > 0 && too_wide(code.numbers.m, code.row) {
+    if limit > 0 && belief_propagation::too_wide(&sound) {
         return Err(Refusal::WideCheck);
     }
     Ok(sound)

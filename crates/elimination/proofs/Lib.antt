@@ -2,6 +2,7 @@ pub mod Swapped
 pub mod Cleared
 pub mod Eliminated
 pub mod Infos
+pub mod Echelon
 pub mod Alike
 pub mod Columns
 pub mod Held

@@ -13,7 +13,7 @@ ghost use Rattle.graph.specs.New.{numbers, new_refusals, lent_work};
 
 use calls::Refusal;
 
-mod build;
+pub mod build;
 mod degrees;
 mod edges;
 pub mod refusals;

@@ -11,7 +11,7 @@ use Rattle.std.specs.Prelude.{None}
 use Rattle.calls.specs.declared.Refusal.{Refusal}
 use Rattle.calls.specs.declared.Refusal.TheVariants.{Size, Length, Malformed, Misencoded}
 use Rattle.calls.specs.Refusal.{first_of, misfits}
-use Rattle.calls.proofs.Refusals.{pass, alike}
+use Rattle.calls.proofs.Refusals.{Alike, pass, alike, fitting}
 use Rattle.graph.specs.declared.Code.{Code}
 use Rattle.graph.specs.Sizes.{too_large, code_lengths}
 use Rattle.elimination.specs.Matrix.{matrix_of}
@@ -50,6 +50,10 @@ module _ (c : Code) (p : Parts) where
 
   pub sound : NotRefused c p → IsSound c p
   sound e = (accepted e).sound
+
+  -- and no call turns such a code down whose parts have their lengths
+  pub call_passes : (h pivots : ℕ) (rest : Bool) → NotRefused c p → Alike (matrix_lengths h pivots) → rest ≡ false → first_of (code_refusals c p h pivots rest) ≡ None
+  call_passes h pivots rest e a r = ap (λ (b : Bool). first_of (tests b)) (fitting (matrix_lengths h pivots) rest a r) ∙ e
 
   -- ---- of a call on a lent code; h and pivots are the lengths of its work parts
 

@@ -95,7 +95,7 @@ module _ (c : Code) (p : Parts) (w : Formed c p) where
 
 -- ---- 7
 
-encoded_passes : (c : Code) (p : Parts) → Encoded c p → misencoded c p ≡ false
+pub encoded_passes : (c : Code) (p : Parts) → Encoded c p → misencoded c p ≡ false
 unfolding misencoded
 encoded_passes c p w =
     sym

@@ -171,6 +171,11 @@ module _ (test : ℕ → Bool) where
   keep_all e [] = refl
   keep_all e (x ∷ l) = keep_yes x l (e x) ∙ ap (λ (a : List ℕ). x ∷ a) (keep_all e l)
 
+  pub keep-length : (l : List ℕ) → length (keep test l) ≤ length l
+  unfolding keep
+  keep-length [] = omega arith
+  keep-length (x ∷ l) = ⊎_elim (λ y. rw (keep_yes x l y) (omega (arith, keep-length l))) (λ n. rw (keep_no x l n) (omega (arith, keep-length l))) (true_or_false (test x))
+
   -- an entry of the list that passes
   abbrev pub Passed : List ℕ → ℕ → Type 0
   Passed l x = (test x ≡ true) × ((u : ℕ) × (u < length l) × (get_or l u 0 ≡ x))

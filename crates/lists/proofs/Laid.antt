@@ -63,6 +63,10 @@ module _ {ℓ} {A : Type ℓ} where
   pub fill_all : (f : ℕ → A) (n : ℕ) (p : List A) → n ≡ length p → laid (values n f) p ≡ values n f
   fill_all f n p e = laid_all (values n f) p (values-length f n ∙ e)
 
+  -- the whole part, as a loop over it ends
+  pub fill_whole : (f : ℕ → A) (n k : ℕ) (p q : List A) → k ≡ n → length p ≡ n → q ≡ laid (values k f) p → q ≡ values n f
+  fill_whole f n k p q e l h = fill_end f n k p q e h ∙ fill_all f n p (sym l)
+
   -- an entry, and the front
   pub fill_at : (f : ℕ → A) (n : ℕ) (p q : List A) (k : ℕ) (d : A) → k < n → q ≡ laid (values n f) p → get_or q k d ≡ f k
   fill_at f n p q k d h e = ap (λ (l : List A). get_or l k d) e ∙ laid_at (values n f) p k d (omega (arith, values-length f n)) ∙ values_at f n k d h

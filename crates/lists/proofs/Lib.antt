@@ -19,6 +19,7 @@ pub mod EachOnce
 pub mod Placed
 pub mod InOrder
 pub mod Rising
+pub mod SameRise
 pub mod Laid
 pub mod Kept
 pub mod Total
@@ -31,3 +32,7 @@ pub mod InPlace
 pub mod ListSearch
 pub mod Sorted
 pub mod StartsWith
+pub mod Marks
+pub mod PlacedOnce
+pub mod OrderedOnce
+pub mod Completed

@@ -11,9 +11,12 @@ pub mod Changed
 pub mod Keep
 pub mod Placed
 pub mod InOrder
+pub mod Ordered
 pub mod Front
 pub mod EachOnce
 pub mod Laid
 pub mod Chain
 pub mod Total
 pub mod Times
+pub mod Completed
+pub mod Marks

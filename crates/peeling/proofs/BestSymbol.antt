@@ -19,6 +19,7 @@ use Rattle.lists.proofs.Choice.{pick-true, pick-false}
 use Rattle.lists.proofs.Iter.{iter_keeps, iter_agree}
 use Rattle.lists.proofs.Lowest.{lowest_is, lowest_ext}
 use Rattle.peeling.specs.Best.{Key, overtakes, replaces, best}
+use Rattle.peeling.specs.Promise.{NotBetter}
 use Rattle.peeling.proofs.SignedOrder.{<ℤ_≤ℤ, le_z-true, le_z-false, lt_z-true, lt_z-false, ≤ℤ_trans}
 
 -- ---- of two keys
@@ -51,13 +52,6 @@ module _ (last : Bool) where
         ltb-false x.0 y.0 r.0,
         λ q. overtakes_no last x.1 y.1 (ap (λ (t : Bool). t && overtakes last x.1 y.1) (sym (eq-eqb x.0 y.0 (sym q))) ∙ r.1),
       )
-
--- w is not better than b
-pub record NotBetter (last : Bool) (key : ℕ → Key) (w b : ℕ) : Type 0 where
-  pub frees : (key w).0 ≤ (key b).0
-  pub prefers : (key w).0 ≡ (key b).0 → (key w).1 ≤ℤ (key b).1
-  pub later : last ≡ true → (key w).0 ≡ (key b).0 → (key w).1 ≡ (key b).1 → w ≤ b
-  pub earlier : last ≡ false → (key w).0 ≡ (key b).0 → (key w).1 ≡ (key b).1 → b ≤ w
 
 -- ---- of all
 

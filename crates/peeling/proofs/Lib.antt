@@ -5,6 +5,7 @@ pub mod PeeledOrder
 pub mod Peelable
 pub mod EdgeLists
 pub mod PeeledCode
+pub mod PeeledInfos
 pub mod Counts
 pub mod Learnt
 pub mod State

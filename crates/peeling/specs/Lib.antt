@@ -5,3 +5,4 @@ pub mod EdgeLists
 pub mod PeeledOrder
 pub mod PeelPicks
 pub mod WithPeeledInfo
+pub mod Promise

@@ -1,12 +1,12 @@
 // Peeling of a lent code, and the code in the column order that it gives: the second information set.
 #![tactic(auto)]
 
-ghost use Rattle.std.specs.Prelude.{◌≡◌, length, replicate};
+ghost use Rattle.std.specs.Prelude.{◌≡◌, length};
 ghost use Rattle.calls.specs.Refusal.{first_of, answered};
 ghost use Rattle.calls.specs.Parts.{worked, written};
 ghost use Rattle.graph.specs.Parts.{Parts, lent};
-ghost use Rattle.lent.specs.Sound.{IsSound};
 ghost use Rattle.peeling.specs.PeelPicks.{peel_picks_refusals, picked, picks_part};
+ghost use Rattle.peeling.specs.Promise.{Promised};
 ghost use Rattle.peeling.specs.WithPeeledInfo.{peeled_refusals, peeled_code, peeled_parts};
 
 use best::Tie;
@@ -15,7 +15,8 @@ use edges::Edges;
 use graph::Code;
 use lent::{Lent, Sound};
 
-mod best;
+pub mod best;
+pub mod code;
 mod edges;
 mod freed;
 mod order;
@@ -63,47 +64,6 @@ pub fn peel_picks(
     Ok(lay_picks(&sound, prefer, picks))
 }
 
-// A sound code in the order that peeling gives: the graph's parts as they are, the others written over. The matrix is left 0.
-// No plainer: four of the parts are written over, and a `Lent` only reads.
-fn peeled(
-    code: Code,
-    var: &[u16],
-    coef: &[u8],
-    row: &[u16],
-    start: &[u16],
-    col: &[u16],
-    order: &mut [u16],
-    parity: &mut [u16],
-    info: &mut [u16],
-    a: &mut [u8],
-    prefer: &[i64],
-    h: &mut [u8],
-) -> Code
-    requires sound { IsSound code (lent var.now coef.now row.now start.now col.now order.old parity.old info.old a.old) }
-    requires lengths { (length prefer.now ≡ code.n) × (length h.old ≡ 65536) }
-    ensures value { result ≡ peeled_code code (lent var.now coef.now row.now start.now col.now order.old parity.old info.old a.old) prefer.now }
-    ensures code_after { ◌≡◌ {A = Parts} (lent var.now coef.now row.now start.now col.now order.new parity.new info.new a.new)
-        (peeled_parts code (lent var.now coef.now row.now start.now col.now order.old parity.old info.old a.old) prefer.now) }
-    ensures h_after { h.new ≡ replicate (length h.old) 0 }
-{
-    let edges = Edges {
-        n: code.n,
-        m: code.m,
-        var,
-        row,
-        start,
-        col,
-    };
-    order::reorder(&edges, TIE, prefer, order);
-    let rank = recode::recode(code.n, code.m, var, coef, row, order, h, parity, info, a);
-    Code {
-        n: code.n,
-        m: code.m,
-        edges: code.edges,
-        rank,
-    }
-}
-
 // The lent code with its information positions chosen by peeling: the graph's parts as they are, the others written over.
 // No plainer: four of the parts are written over, and a `Lent` only reads.
 pub fn with_peeled_info(
@@ -141,7 +101,12 @@ pub fn with_peeled_info(
         a: &*a,
     };
     given.accepted(h, pivots, prefer.len() != code.n)?;
-    Ok(peeled(
-        code, var, coef, row, start, col, order, parity, info, a, prefer, h,
+    Ok(code::peeled(
+        TIE, code, var, coef, row, start, col, order, parity, info, a, prefer, h,
     ))
 }
+
+// What is promised of peeling: a promise alone, and no code.
+pub fn promise()
+    ensures { Promised }
+{}

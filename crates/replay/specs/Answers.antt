@@ -1,4 +1,4 @@
--- Our answers beside what the list has. The list has no work part: by the number that a call answers, 2 and 3 leave it as it was lent, the others clear it. Ours.
+-- Our answers beside what the list has. The list has no work part: by the number that a call answers, 1 to 3 leave it as it was lent, the others clear it. Ours.
 -- Assumes nothing.
 use Rattle.std.specs.Prelude.{ℕ, ◌||◌, ◌++◌, List, Result, Ok, Err, nat_eq, if◌then◌else◌, map, slice_index}
 use Rattle.std.specs.List.{zip, range_with_len}
@@ -25,7 +25,7 @@ found_beside f listed = record { label = f.label; ours = f.ours; listed = listed
 
 -- a work part after a call that answers this number
 abbrev pub left : ℕ → WorkKind → List ℕ
-left number kind = if nat_eq number 2 || nat_eq number 3 then as_lent kind else as_cleared kind
+left number kind = if nat_eq number 1 || nat_eq number 2 || nat_eq number 3 then as_lent kind else as_cleared kind
 
 abbrev pub work_beside : ℕ → WorkPart → Answer
 work_beside number w = record { label = WorkPartLabel w.name; ours = w.ours; listed = digest_of (left number w.kind) }

@@ -2,7 +2,7 @@
 -- Assumes nothing.
 use Rattle.std.specs.Prelude.{ℕ, List, codes}
 use Rattle.replay.specs.declared.call.Call.{Call}
-use Rattle.replay.specs.declared.call.Call.TheVariants.{Mul, Inv, Draws, EvenDegrees, New, Encode, InfoOf, ChecksOk, Degree, K, N, InfoPositions, PeelPicks, WithPeeledInfo, DecodeSoft, Decode, ListDecode}
+use Rattle.replay.specs.declared.call.Call.TheVariants.{Mul, Inv, Draws, EvenDegrees, New, Encode, InfoOf, ChecksOk, Degree, K, N, InfoPositions, PeelPicks, WithPeeledInfo, DecodeSoft, Decode, ListDecode, NFor, DegreesFor, CodeAt, Spread, BitsToSyms, EncodeBitsAt, EncodeBitsWith, EncodeBits, DecodeBitsPriorAt, DecodeBitsPriorFb, DecodeBitsPriorWith, DecodeBitsPrior, DecodeBits}
 
 abbrev pub name_of : Call → List ℕ
 name_of Mul = codes "mul"
@@ -22,3 +22,16 @@ name_of WithPeeledInfo = codes "with_peeled_info"
 name_of DecodeSoft = codes "decode_soft"
 name_of Decode = codes "decode"
 name_of ListDecode = codes "list_decode"
+name_of NFor = codes "n_for"
+name_of DegreesFor = codes "degrees_for"
+name_of CodeAt = codes "code_at"
+name_of Spread = codes "spread"
+name_of BitsToSyms = codes "bits_to_syms"
+name_of EncodeBitsAt = codes "encode_bits_at"
+name_of EncodeBitsWith = codes "encode_bits_with"
+name_of EncodeBits = codes "encode_bits"
+name_of DecodeBitsPriorAt = codes "decode_bits_prior_at"
+name_of DecodeBitsPriorFb = codes "decode_bits_prior_fb"
+name_of DecodeBitsPriorWith = codes "decode_bits_prior_with"
+name_of DecodeBitsPrior = codes "decode_bits_prior"
+name_of DecodeBits = codes "decode_bits"

@@ -1,6 +1,7 @@
 pub mod Answers
 pub mod Call
 pub mod Digest
+pub mod Frames
 pub mod Given
 pub mod Held
 pub mod Tally

@@ -1,6 +1,6 @@
 // What a call of the library answers, and the same beside what the list has.
 ghost use Rattle.calls.specs.Refusal.{answer_number};
-ghost use Rattle.std.specs.Prelude.{◌≡◌, ◌≢◌, ◌↔◌, IsTrue, Some, IfOk, IsErrOf, length, map, vec_len};
+ghost use Rattle.std.specs.Prelude.{◌≡◌, ◌≢◌, ◌↔◌, ◌∷◌, [], IsTrue, Some, IfOk, IsErrOf, length, map, vec_len};
 ghost use Rattle.replay.specs.Answers.{number_found, found_beside, work_beside, lay, beside};
 ghost use Rattle.replay.specs.Digest.{digest_of};
 ghost use Rattle.replay.specs.Text.{label_text, answer_text};
@@ -119,7 +119,7 @@ impl WorkPart {
         ensures { result ≡ work_beside number self.now }
     {
         let listed = match number {
-            2 | 3 => self.kind.lent(),
+            1..=3 => self.kind.lent(),
             _ => self.kind.cleared(),
         };
         Answer {
@@ -170,6 +170,17 @@ impl Answers {
             found: found.to_vec(alloc)?,
             work: work.to_vec(alloc)?,
         })
+    }
+
+    // Of a call with one answer.
+    pub fn only<T: Number>(alloc: Global, ours: T) -> Result<Self, AllocError>
+        ensures { IfOk result (λ a. map (λ f. f.ours) a.found.items ≡ T.number ours ∷ []) }
+    {
+        let found = Found {
+            label: Label::Only,
+            ours: ours.number(),
+        };
+        Answers::new(alloc, &[found], &[])
     }
 
     // As many as the list has.

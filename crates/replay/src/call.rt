@@ -6,10 +6,15 @@ ghost use Rattle.replay.specs.declared.case.CaseError.TheVariants.{NotUnderstood
 
 use crate::answers::Answers;
 use crate::case::CaseError;
+use crate::code::{Code, Shape};
 use crate::fields::Fields;
+use crate::frame_decodings::{
+    decode_bits, decode_bits_prior, decode_bits_prior_at, decode_bits_prior_fb,
+    decode_bits_prior_with,
+};
 use crate::given::{Metrics, read_symbols};
-use crate::lending::{Sent, code_and_changed_word, code_and_preferences, damaged};
-use crate::{code_calls, field_calls, graph_calls};
+use crate::lending::{Sent, SentFrame, code_and_changed_word, code_and_preferences, damaged};
+use crate::{code_calls, field_calls, frame_calls, graph_calls, rate_calls};
 use std::alloc::Global;
 use std::fmt;
 use std::str::FromStr;
@@ -33,6 +38,19 @@ pub enum Call {
     DecodeSoft,
     Decode,
     ListDecode,
+    NFor,
+    DegreesFor,
+    CodeAt,
+    Spread,
+    BitsToSyms,
+    EncodeBitsAt,
+    EncodeBitsWith,
+    EncodeBits,
+    DecodeBitsPriorAt,
+    DecodeBitsPriorFb,
+    DecodeBitsPriorWith,
+    DecodeBitsPrior,
+    DecodeBits,
 }
 
 impl FromStr for Call {
@@ -59,6 +77,19 @@ impl FromStr for Call {
             "decode_soft" => Ok(Call::DecodeSoft),
             "decode" => Ok(Call::Decode),
             "list_decode" => Ok(Call::ListDecode),
+            "n_for" => Ok(Call::NFor),
+            "degrees_for" => Ok(Call::DegreesFor),
+            "code_at" => Ok(Call::CodeAt),
+            "spread" => Ok(Call::Spread),
+            "bits_to_syms" => Ok(Call::BitsToSyms),
+            "encode_bits_at" => Ok(Call::EncodeBitsAt),
+            "encode_bits_with" => Ok(Call::EncodeBitsWith),
+            "encode_bits" => Ok(Call::EncodeBits),
+            "decode_bits_prior_at" => Ok(Call::DecodeBitsPriorAt),
+            "decode_bits_prior_fb" => Ok(Call::DecodeBitsPriorFb),
+            "decode_bits_prior_with" => Ok(Call::DecodeBitsPriorWith),
+            "decode_bits_prior" => Ok(Call::DecodeBitsPrior),
+            "decode_bits" => Ok(Call::DecodeBits),
             _ => Err(CaseError::NotUnderstood),
         }
     }
@@ -86,6 +117,19 @@ impl fmt::Display for Call {
             Call::DecodeSoft => "decode_soft",
             Call::Decode => "decode",
             Call::ListDecode => "list_decode",
+            Call::NFor => "n_for",
+            Call::DegreesFor => "degrees_for",
+            Call::CodeAt => "code_at",
+            Call::Spread => "spread",
+            Call::BitsToSyms => "bits_to_syms",
+            Call::EncodeBitsAt => "encode_bits_at",
+            Call::EncodeBitsWith => "encode_bits_with",
+            Call::EncodeBits => "encode_bits",
+            Call::DecodeBitsPriorAt => "decode_bits_prior_at",
+            Call::DecodeBitsPriorFb => "decode_bits_prior_fb",
+            Call::DecodeBitsPriorWith => "decode_bits_prior_with",
+            Call::DecodeBitsPrior => "decode_bits_prior",
+            Call::DecodeBits => "decode_bits",
         })
     }
 }
@@ -146,6 +190,73 @@ impl Call {
                 let width = fields.number()?;
                 let posteriors = metrics.floats(alloc, &mut metrics.generator(), &sent.word)?;
                 Ok(code_calls::list_decode(alloc, &sent, &posteriors, width)?)
+            }
+            Call::NFor => Ok(rate_calls::n_for(alloc, fields.number()?)?),
+            Call::DegreesFor => {
+                let rate = fields.number()?;
+                Ok(rate_calls::degrees_for(alloc, rate, fields.count()?)?)
+            }
+            Call::CodeAt => {
+                let rate = fields.number()?;
+                let set = fields.number()?;
+                let code = Code::blank(alloc, Shape::NONE)?;
+                Ok(rate_calls::code_at(alloc, code, rate, set)?)
+            }
+            Call::Spread => {
+                let i = fields.between(0, 259)? as usize;
+                Ok(frame_calls::spread(alloc, i)?)
+            }
+            Call::BitsToSyms => {
+                let bits = read_symbols(alloc, fields)?;
+                Ok(frame_calls::bits_to_syms(alloc, &bits, fields.count()?)?)
+            }
+            Call::EncodeBitsAt => {
+                let rate = fields.number()?;
+                let layout = fields.number()?;
+                let bits = read_symbols(alloc, fields)?;
+                let room = fields.count()?;
+                Ok(frame_calls::encode_bits_at(alloc, rate, layout, &bits, room)?)
+            }
+            Call::EncodeBitsWith => {
+                let layout = fields.number()?;
+                let bits = read_symbols(alloc, fields)?;
+                let room = fields.count()?;
+                Ok(frame_calls::encode_bits_with(alloc, layout, &bits, room)?)
+            }
+            Call::EncodeBits => {
+                let bits = read_symbols(alloc, fields)?;
+                Ok(frame_calls::encode_bits(alloc, &bits, fields.count()?)?)
+            }
+            Call::DecodeBitsPriorAt => {
+                let sent = SentFrame::read(alloc, fields)?;
+                let rate = fields.number()?;
+                let layout = fields.number()?;
+                let prior = sent.prior(alloc, fields)?;
+                let fallback = fields.number()?;
+                let metrics = &sent.metrics;
+                Ok(decode_bits_prior_at(alloc, rate, layout, metrics, &prior, fallback)?)
+            }
+            Call::DecodeBitsPriorFb => {
+                let sent = SentFrame::read(alloc, fields)?;
+                let layout = fields.number()?;
+                let prior = sent.prior(alloc, fields)?;
+                let fallback = fields.number()?;
+                Ok(decode_bits_prior_fb(alloc, layout, &sent.metrics, &prior, fallback)?)
+            }
+            Call::DecodeBitsPriorWith => {
+                let sent = SentFrame::read(alloc, fields)?;
+                let layout = fields.number()?;
+                let prior = sent.prior(alloc, fields)?;
+                Ok(decode_bits_prior_with(alloc, layout, &sent.metrics, &prior)?)
+            }
+            Call::DecodeBitsPrior => {
+                let sent = SentFrame::read(alloc, fields)?;
+                let prior = sent.prior(alloc, fields)?;
+                Ok(decode_bits_prior(alloc, &sent.metrics, &prior)?)
+            }
+            Call::DecodeBits => {
+                let sent = SentFrame::read(alloc, fields)?;
+                Ok(decode_bits(alloc, &sent.metrics)?)
             }
         }
     }

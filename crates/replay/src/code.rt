@@ -58,6 +58,16 @@ pub struct Built {
 }
 
 impl Shape {
+    // Of a code that no line shapes.
+    pub const NONE: Shape = Shape {
+        n: 0,
+        m: 0,
+        heavy: 0,
+        degree: 0,
+        light: 0,
+        seed: 0,
+    };
+
     pub fn read(fields: &mut Fields<'_>) -> Result<Self, CaseError>
         ensures sizes { let given = fields.old.rest.now in
             IfOk result (λ s. (s.n ≡ slice_index given 0) × (s.m ≡ slice_index given 1)) }
@@ -152,7 +162,7 @@ impl Code {
     ghost use Rattle.replay.specs.Held.{held};
 
     // No code, in parts whose every entry is 1.
-    fn blank(alloc: Global, shape: Shape) -> Result<Self, AllocError> {
+    pub fn blank(alloc: Global, shape: Shape) -> Result<Self, AllocError> {
         Ok(Code {
             shape,
             numbers: graph::Code {

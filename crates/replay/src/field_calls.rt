@@ -20,7 +20,7 @@ pub fn mul(alloc: Global, fields: &mut Fields<'_>) -> Result<Answers, CaseError>
 {
     let a = fields.between(0, 31)? as u8;
     let b = fields.between(0, 31)? as u8;
-    Ok(only(alloc, gf::mul(a, b))?)
+    Ok(Answers::only(alloc, gf::mul(a, b))?)
 }
 
 // inv A INVERSE
@@ -29,17 +29,7 @@ pub fn inv(alloc: Global, fields: &mut Fields<'_>) -> Result<Answers, CaseError>
     ensures misread { IsErrOf result CaseError.NotUnderstood → (a : ℕ) (rest : List ℕ) → fields.old.rest.now ≡ a ∷ rest → 0 < a → 31 < a }
 {
     let a = fields.between(1, 31)? as u8;
-    Ok(only(alloc, gf::inv(a))?)
-}
-
-fn only(alloc: Global, ours: u8) -> Result<Answers, AllocError>
-    ensures { IfOk result (λ r. map (λ f. f.ours) r.found.items ≡ ours ∷ []) }
-{
-    let found = Found {
-        label: Label::Only,
-        ours: u64::from(ours),
-    };
-    Answers::new(alloc, &[found], &[])
+    Ok(Answers::only(alloc, gf::inv(a))?)
 }
 
 // draws SEED COUNT D1 .. DCOUNT

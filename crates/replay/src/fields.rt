@@ -2,6 +2,7 @@
 ghost use Rattle.std.specs.Prelude.{◌≡◌, ◌≤◌, ◌<◌, ◌∷◌, ℕ, List, IfOk, OnErr, []};
 
 use crate::case::CaseError;
+use crate::code::MOST;
 use std::num::TryFromIntError;
 
 #[derive(Drop)]
@@ -22,6 +23,14 @@ impl Fields<'_> {
     // One that the type holds.
     pub fn number<T: TryFrom<u64, Error = TryFromIntError>>(&mut self) -> Result<T, CaseError> {
         Ok(T::try_from(self.next()?)?)
+    }
+
+    // So many entries, at most one more than a call takes.
+    pub fn count(&mut self) -> Result<usize, CaseError>
+        ensures at_most { IfOk result (λ n. n ≤ 257) }
+        ensures taken { IfOk result (λ n. self.old.rest.now ≡ n ∷ self.new.rest.now) }
+    {
+        Ok(self.between(0, MOST)? as usize)
     }
 
     pub fn between(&mut self, least: u64, most: u64) -> Result<u64, CaseError>

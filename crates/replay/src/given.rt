@@ -220,3 +220,40 @@ impl Metrics {
         f32::from(count as u16) / part
     }
 }
+
+// COUNT FROM RULE DRAWS SPREAD PEAK: a prior for the bits of a notice.
+#[derive(Clone, Copy)]
+pub struct Prior {
+    count: usize,
+    from: usize,
+    metrics: Metrics,
+    ghost count_in_range: { count ≤ 257 },
+}
+
+impl Prior {
+    pub fn read(fields: &mut Fields<'_>) -> Result<Self, CaseError>
+        ensures { let given = fields.old.rest.now in
+            IfOk result (λ p. (p.count ≡ slice_index given 0) × (p.from ≡ slice_index given 1)) }
+    {
+        Ok(Prior {
+            count: fields.count()?,
+            from: fields.count()?,
+            metrics: Metrics::read(fields)?,
+        })
+    }
+
+    // An entry is what a metric would be at the value that was sent, with a minus where the bit is 1. Those before `from` are 0.0.
+    pub fn floats(&self, alloc: Global, bits: &[u8]) -> Result<Vec<f32>, AllocError> {
+        let mut floats = Vec::new(alloc);
+        let draws = draws(alloc, &mut self.metrics.generator(), self.count)?;
+        for (i, draw) in draws.iter().enumerate() {
+            let x = self.metrics.float(draw % self.metrics.spread, true);
+            floats.push(match bits.get(i) {
+                _ if i < self.from => 0.0,
+                Some(1) => -x,
+                _ => x,
+            })?;
+        }
+        Ok(floats)
+    }
+}

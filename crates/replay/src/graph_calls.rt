@@ -4,13 +4,16 @@ ghost use Rattle.lists.specs.Values.{values};
 ghost use Rattle.calls.specs.Refusal.{first_of, answered, answer_number};
 ghost use Rattle.calls.specs.Parts.{written};
 ghost use Rattle.graph.specs.EvenDegrees.{even_degree, even_refusals};
+ghost use Rattle.replay.specs.Answers.{number_found};
 ghost use Rattle.replay.specs.Digest.{digest_of};
+ghost use Rattle.replay.specs.Held.{held};
 
-use crate::answers::{Answers, Found};
+use crate::answers::{Answers, Found, WorkPart};
 use crate::case::CaseError;
-use crate::code::{Built, MOST, Shape};
+use crate::code::{Built, Code, MOST, Shape};
 use crate::fields::Fields;
-use std::alloc::Global;
+use calls::Refusal;
+use std::alloc::{AllocError, Global};
 
 // even_degrees N E NUMBER DEGREES
 pub fn even_degrees(alloc: Global, fields: &mut Fields<'_>) -> Result<Answers, CaseError>
@@ -32,10 +35,25 @@ pub fn even_degrees(alloc: Global, fields: &mut Fields<'_>) -> Result<Answers, C
 // new CODE NUMBER EDGES RANK VAR COEF ROW START COL ORDER PARITY INFO A
 pub fn new(alloc: Global, fields: &mut Fields<'_>) -> Result<Answers, CaseError> {
     let Built { answer, code, work } = Shape::read(fields)?.build(alloc)?;
+    Ok(made(alloc, answer, &code, &work)?)
+}
+
+// The answers of a call that makes a code. Its numbers are 0 where it is turned down.
+pub fn made(
+    alloc: Global,
+    answer: Result<graph::Code, Refusal>,
+    code: &Code,
+    work: &[WorkPart],
+) -> Result<Answers, AllocError>
+    ensures { let after = (held code.now).parts in
+        IfOk result (λ r. map (λ f. f.ours) r.found.items ≡ answer_number answer ∷ number_found (λ c. c.edges) answer ∷ number_found (λ c. c.rank) answer
+        ∷ digest_of after.var ∷ digest_of after.coef ∷ digest_of after.row ∷ digest_of after.start ∷ digest_of after.col
+        ∷ digest_of after.order ∷ digest_of after.parity ∷ digest_of after.info ∷ digest_of after.a ∷ []) }
+{
     let found = [
         Found::number(answer),
-        Found::new("count of edges", code.numbers.edges as u64),
-        Found::new("rank", code.numbers.rank as u64),
+        Found::finding("count of edges", answer.map(|numbers| numbers.edges)),
+        Found::finding("rank", answer),
         Found::digest("var", &code.var),
         Found::digest("coef", &code.coef),
         Found::digest("row", &code.row),
@@ -46,5 +64,5 @@ pub fn new(alloc: Global, fields: &mut Fields<'_>) -> Result<Answers, CaseError>
         Found::digest("info", &code.info),
         Found::digest("a", &code.a),
     ];
-    Ok(Answers::new(alloc, &found, &work)?)
+    Answers::new(alloc, &found, work)
 }

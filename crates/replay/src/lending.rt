@@ -1,10 +1,10 @@
-// What a call on a code is given: the code of a case with its damage, and what goes with it. Before a call every entry of its output and work parts is 1.
+// What a call is given: the code of a case with its damage, or a frame that was sent, and what goes with it. Before a call every entry of its output and work parts is 1.
 ghost use Rattle.std.specs.Prelude.{◌≡◌, IfOk, vec_len};
 
 use crate::case::CaseError;
 use crate::code::{Code, Damage, Shape};
 use crate::fields::Fields;
-use crate::given::{Metrics, Preferences, change, draw_symbols, read_symbols};
+use crate::given::{Metrics, Preferences, Prior, change, draw_symbols, read_symbols};
 use std::alloc::{AllocError, Global};
 
 // The work parts h and pivots, before a call.
@@ -92,4 +92,50 @@ impl Sent {
             known,
         })
     }
+}
+
+// The work parts `words` and `bytes` of a frame call, before it.
+pub fn frame_work_parts(alloc: Global) -> Result<(Vec<u16>, Vec<u8>), AllocError>
+    ensures { IfOk result (λ work. (vec_len work.0 ≡ 2818) × (vec_len work.1 ≡ 147968)) }
+{
+    let words = vec![in alloc; 1; 2818]?;
+    let bytes = vec![in alloc; 1; 147968]?;
+    Ok((words, bytes))
+}
+
+// RATE LAYOUT RULE DRAWS SPREAD PEAK: the bits of a notice that was sent, and the metrics of its tones.
+#[derive(Drop)]
+pub struct SentFrame {
+    pub bits: Vec<u8>,
+    pub metrics: Vec<f32>,
+}
+
+impl SentFrame {
+    // The first 256 draws, each mod 2, are the bits. The metrics go on after them.
+    pub fn read(alloc: Global, fields: &mut Fields<'_>) -> Result<SentFrame, CaseError> {
+        let rate = fields.number()?;
+        let layout = fields.number()?;
+        let metrics = Metrics::read(fields)?;
+        let mut generator = metrics.generator();
+        let bits = draw_symbols(alloc, &mut generator, 256, 2)?;
+        let tones = tones(alloc, rate, layout, &bits)?;
+        let metrics = metrics.floats(alloc, &mut generator, &tones)?;
+        Ok(SentFrame { bits, metrics })
+    }
+
+    // PRIOR
+    pub fn prior(&self, alloc: Global, fields: &mut Fields<'_>) -> Result<Vec<f32>, CaseError> {
+        Ok(Prior::read(fields)?.floats(alloc, &self.bits)?)
+    }
+}
+
+// What `encode_bits_at` answers to the bits. A rate or layout that it refuses is not understood.
+fn tones(alloc: Global, rate: usize, layout: usize, bits: &[u8]) -> Result<Vec<u8>, CaseError> {
+    let n = rates::n_for(rate).map_err(|_| CaseError::NotUnderstood)?;
+    let mut tones = vec![in alloc; 1u8; n]?;
+    let (mut words, mut bytes) = frame_work_parts(alloc)?;
+    frames::encode_bits_at(rate, layout, bits, &mut tones, &mut words, &mut bytes).map_err(
+        |_| CaseError::NotUnderstood,
+    )?;
+    Ok(tones)
 }

@@ -11,15 +11,18 @@ mod code_calls;
 mod digest;
 mod field_calls;
 mod fields;
+mod frame_calls;
+mod frame_decodings;
 mod given;
 mod graph_calls;
 mod lending;
 mod list;
 mod number;
+mod rate_calls;
 mod tally;
 
 // The last is wrong on purpose. What is printed of it shows that a wrong case would be seen in the others.
-const LISTS: [&str; 8] = [
+const LISTS: [&str; 10] = [
     "splitmix64.txt",
     "field.txt",
     "graph.txt",
@@ -27,6 +30,8 @@ const LISTS: [&str; 8] = [
     "peeling.txt",
     "decoding.txt",
     "list_decoding.txt",
+    "rates.txt",
+    "frames.txt",
     "wrong.txt",
 ];
 

@@ -9,4 +9,6 @@ pub mod Beginning
 pub mod GoingOn
 pub mod FineRounds
 pub mod KnownRounds
+pub mod ByRounds
+pub mod OnFrom
 pub mod Filled

@@ -2,6 +2,10 @@ pub mod EncoderParts
 pub mod CheckSums
 pub mod Parity
 pub mod Encodings
+pub mod UnitWords
+pub mod Unique
+pub mod UniqueCode
+pub mod ClaimedTrue
 pub mod Sums
 pub mod Linear
 pub mod Theorem

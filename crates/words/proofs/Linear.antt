@@ -1,18 +1,16 @@
 -- Sums and field multiples of words are words, and the encoder is linear: both by one law, of every linear way to combine two symbols.
 -- Assumes nothing.
 use mathlib.Core.Path.{◌≡◌, refl, sym, ap, ap₂, ◌∙◌}
-use mathlib.Core.Logic.{⊎_elim}
 use mathlib.Core.List.{List, [], ◌∷◌, foldl}
-use Prim.Native.Nat.{ℕ, ◌%◌, ◌<◌}
+use Prim.Native.Nat.{ℕ, max, ◌%◌, ◌<◌}
 use native.Mathlib.Nat.{mod-eq_of_lt}
 use native.Mathlib.Omega.{arith}
 use lib.Bits.{bit_xor, xor_mod}
-use lib.ListN.{length, get_or-eq_default}
+use lib.ListN.{length}
 use Rattle.lists.specs.EachOnce.{EachOnce}
 use Rattle.lists.specs.Entry.{nth}
 use Rattle.lists.specs.Values.{values}
-use Rattle.lists.proofs.Cases.{less_or_not}
-use Rattle.lists.proofs.Values.{values-length, values_at, map_entries}
+use Rattle.lists.proofs.Values.{values-length, map_entries}
 use Rattle.field.specs.Field.{product}
 use Rattle.field.proofs.Product.{mod32, product-lt, product_comm, product_assoc, product_xor, zero-product, product-mod_left}
 use Rattle.field.proofs.Sum.{xor_inter}
@@ -21,17 +19,14 @@ use Rattle.elimination.proofs.Entries.{Small, Inside}
 use Rattle.words.specs.Encoding.{information_of, encoding}
 use Rattle.words.specs.Linear.{sum_of, multiple_of}
 use Rattle.words.specs.Word.{sum_turn, check_sum, Word}
-use Rattle.words.proofs.Encodings.{encoding-length, encoding_info, encoding_word, word_encoding}
+use Rattle.words.proofs.Encodings.{encoding_info, encoding_word, word_encoding}
+use Rattle.words.proofs.Sums.{combined, combined_at}
 
 -- f keeps the field's sums and multiples, and of a number above 31 takes the five lowest digits
 record Linear (f : ℕ → ℕ → ℕ) : Type 0 where
   sums : (a b c d : ℕ) → f (bit_xor a b) (bit_xor c d) ≡ bit_xor (f a c) (f b d)
   products : (e a b : ℕ) → f (product e a) (product e b) ≡ product e (f a b)
   mods : (a b : ℕ) → f (a % 32) (b % 32) ≡ f a b % 32
-
--- position by position
-abbrev combined : (ℕ → ℕ → ℕ) → List ℕ → List ℕ → List ℕ
-combined f x y = values (length x) (λ j. f (nth x j) (nth y j))
 
 module _ (f : ℕ → ℕ → ℕ) (w : Linear f) where
   zeros : f 0 0 ≡ 0
@@ -40,21 +35,12 @@ module _ (f : ℕ → ℕ → ℕ) (w : Linear f) where
   below : (a b : ℕ) → a < 32 → b < 32 → f a b < 32
   below a b h l = rw (ap₂ f (sym (mod-eq_of_lt h)) (sym (mod-eq_of_lt l)) ∙ w.mods a b) (mod32 (f a b))
 
-  module _ (x y : List ℕ) (same : length x ≡ length y) where
-    -- also past the end
-    combined_at : (j : ℕ) → nth (combined f x y) j ≡ f (nth x j) (nth y j)
-    combined_at j =
-        ⊎_elim
-        (λ h. values_at (λ j. f (nth x j) (nth y j)) (length x) j 0 h)
-        (λ h. get_or-eq_default (combined f x y) 0 (omega (arith, values-length (λ j. f (nth x j) (nth y j)) (length x)))
-        ∙ sym (ap₂ f (get_or-eq_default x 0 h) (get_or-eq_default y 0 (omega arith)) ∙ zeros))
-        (less_or_not j (length x))
-
+  module _ (x y : List ℕ) where
     fold_combined : (es : List Edge) (a b : ℕ) → foldl (sum_turn (combined f x y)) (f a b) es ≡ f (foldl (sum_turn x) a es) (foldl (sum_turn y) b es)
     fold_combined [] a b = refl
     fold_combined (e ∷ es) a b =
         ap (λ (s : ℕ). foldl (sum_turn (combined f x y)) s es)
-        (ap (bit_xor (f a b)) (ap (product e.1) (combined_at e.0) ∙ sym (w.products e.1 (nth x e.0) (nth y e.0)))
+        (ap (bit_xor (f a b)) (ap (product e.1) (combined_at f zeros x y e.0) ∙ sym (w.products e.1 (nth x e.0) (nth y e.0)))
         ∙ sym (w.sums a (product e.1 (nth x e.0)) b (product e.1 (nth y e.0))))
         ∙ fold_combined es (sum_turn x a e) (sum_turn y b e)
 
@@ -65,26 +51,23 @@ module _ (f : ℕ → ℕ → ℕ) (w : Linear f) where
   word_combined : (g : Graph) (x y : List ℕ) → Word g x → Word g y → Word g (combined f x y)
   word_combined g x y a b = record {
     symbols = record {
-      long = values-length (λ j. f (nth x j) (nth y j)) (length x) ∙ a.symbols.long;
-      small = λ j h. rw (combined_at x y same j) (below (nth x j) (nth y j) (a.symbols.small j h) (b.symbols.small j h));
+      long = omega (arith, values-length (λ j. f (nth x j) (nth y j)) (max (length x) (length y)), a.symbols.long, b.symbols.long);
+      small = λ j h. rw (combined_at f zeros x y j) (below (nth x j) (nth y j) (a.symbols.small j h) (b.symbols.small j h));
     };
-    satisfied = λ c h. sum_combined x y same (check g c) ∙ ap₂ f (a.satisfied c h) (b.satisfied c h) ∙ zeros;
+    satisfied = λ c h. sum_combined x y (check g c) ∙ ap₂ f (a.satisfied c h) (b.satisfied c h) ∙ zeros;
   }
-    where
-      same : length x ≡ length y
-      same = a.symbols.long ∙ sym b.symbols.long
 
   -- the combined encodings are a word, so they are the encoding of the symbols at the information positions
-  encoding-combined : (g : Graph) (order : List ℕ) → Small g → EachOnce g.n (nth order) → Inside g → (u v : List ℕ) → length u ≡ length v
+  encoding-combined : (g : Graph) (order : List ℕ) → Small g → EachOnce g.n (nth order) → Inside g → (u v : List ℕ)
       → encoding g order (combined f u v) ≡ combined f (encoding g order u) (encoding g order v)
-  encoding-combined g order small each inside u v e =
+  encoding-combined g order small each inside u v =
       sym (word_encoding g order small each inside (combined f x y) (combined f u v)
       (word_combined g x y (encoding_word g order small each inside u) (encoding_word g order small each inside v))
       (λ t h.
-      combined_at x y (encoding-length g order u ∙ sym (encoding-length g order v)) (nth (information_of g order) t)
+      combined_at f zeros x y (nth (information_of g order) t)
       ∙ ap₂ f (encoding_info g order u t h) (encoding_info g order v t h)
       ∙ w.mods (nth u t) (nth v t)
-      ∙ ap (λ (a : ℕ). a % 32) (sym (combined_at u v e t))))
+      ∙ ap (λ (a : ℕ). a % 32) (sym (combined_at f zeros u v t))))
     where
       x : List ℕ
       x = encoding g order u
@@ -107,7 +90,7 @@ by_factor f = record {
 
 multiple_is : (f : ℕ) (x : List ℕ) → multiple_of f x ≡ combined (λ a b. product f a) x x
 unfolding multiple_of
-multiple_is f x = map_entries (product f) 0 x
+multiple_is f x = map_entries (product f) 0 x ∙ ap (λ (n : ℕ). values n (λ j. product f (nth x j))) (omega arith)
 
 pub word_sum : (g : Graph) (x y : List ℕ) → Word g x → Word g y → Word g (sum_of x y)
 unfolding sum_of
@@ -117,11 +100,11 @@ pub word_multiple : (g : Graph) (f : ℕ) (x : List ℕ) → Word g x → Word g
 word_multiple g f x a = rw multiple_is (word_combined (λ a b. product f a) (by_factor f) g x x a a)
 
 module _ (g : Graph) (order : List ℕ) (small : Small g) (each : EachOnce g.n (nth order)) (inside : Inside g) where
-  pub encoding_sum : (u v : List ℕ) → length u ≡ length v → encoding g order (sum_of u v) ≡ sum_of (encoding g order u) (encoding g order v)
+  pub encoding_sum : (u v : List ℕ) → encoding g order (sum_of u v) ≡ sum_of (encoding g order u) (encoding g order v)
   unfolding sum_of
   encoding_sum = encoding-combined bit_xor by_sum g order small each inside
 
   pub encoding_multiple : (f : ℕ) (u : List ℕ) → encoding g order (multiple_of f u) ≡ multiple_of f (encoding g order u)
   encoding_multiple f u =
-      ap (encoding g order) (multiple_is f u) ∙ encoding-combined (λ a b. product f a) (by_factor f) g order small each inside u u refl
+      ap (encoding g order) (multiple_is f u) ∙ encoding-combined (λ a b. product f a) (by_factor f) g order small each inside u u
       ∙ sym (multiple_is f (encoding g order u))

@@ -10,3 +10,4 @@ pub mod Degree
 pub mod K
 pub mod N
 pub mod InfoPositions
+pub mod Promise

@@ -1,4 +1,5 @@
-// Words of a lent code. The public calls of document 01's part 3 stand here; each begins with the test of the lent code, which works in `h` and `pivots`.
+// Words of a lent code. The public calls on words stand here; each begins with the test of the lent code, which works in `h` and `pivots`. What is promised of words is the
+// contract of `promise`.
 #![tactic(auto)]
 
 ghost use Rattle.std.specs.Prelude.{◌≡◌, false, length};
@@ -13,13 +14,14 @@ ghost use Rattle.words.specs.Degree.{degree_in, degree_refusals};
 ghost use Rattle.words.specs.K.{k_of};
 ghost use Rattle.words.specs.N.{n_of};
 ghost use Rattle.words.specs.InfoPositions.{info_positions_refusals, positions_part};
+ghost use Rattle.words.specs.Promise.{Promised};
 
 use calls::Refusal;
 use lent::Lent;
 
 pub mod checks;
 pub mod encoder;
-mod positions;
+pub mod positions;
 
 // The word of the given information symbols, each mod 32; missing ones are 0.
 pub fn encode(
@@ -129,3 +131,8 @@ pub fn info_positions(
     let sound = code.accepted(h, pivots, positions.len() != code.numbers.n)?;
     Ok(positions::list(&sound, positions))
 }
+
+// What is promised of words: a promise alone, and no code.
+pub fn promise()
+    ensures { Promised }
+{}

@@ -1,4 +1,4 @@
--- `peeling::peeled` meets its contract: elimination goes in the order that peeling gives.
+-- `peeling::code::peeled` meets its contract: elimination goes in the order that peeling gives.
 use Prim.Native.Nat.{ℕ, ◌<◌}
 use mathlib.Core.Path.{◌≡◌, sym, ap, subst, ◌∙◌}
 use mathlib.Core.List.{List}
@@ -10,23 +10,23 @@ use Rattle.calls.proofs.Parts.{padded-length, padded_in}
 use Rattle.elimination.specs.Encodable.{Encodable}
 use Rattle.graph.specs.Parts.{Parts, lent}
 use Rattle.lent.proofs.SoundCode.{sound_encodable}
-use Rattle.peeling.specs.Best.{last_of_equal}
+use Rattle.peeling.specs.Best.{is_last}
 use Rattle.peeling.specs.WithPeeledInfo.{order_of}
 use Rattle.peeling.proofs.Peelable.{peelable}
 use Rattle.peeling.proofs.PeeledCode.{peeled_long, peeled_once}
 use Rattle.peeling.proofs.Recoded.{recoded_code, recoded_parts}
-use Rattle.peeling.proofs.peeled.Goals.{After-reorder}
-use Rattle.peeling.proofs.peeled.Goals as goal
+use Rattle.peeling.proofs.code.peeled.Goals.{After-reorder}
+use Rattle.peeling.proofs.code.peeled.Goals as goal
 
 module _ (c : After-reorder) where
   abbrev parts : Parts
   parts = let a = c.args in lent a.var.now a.coef.now a.row.now a.start.now a.col.now a.order.now a.parity.now a.info.now a.a.now
 
   abbrev new : List ℕ
-  new = order_of last_of_equal c.args.code parts c.args.prefer.now
+  new = order_of (is_last c.args.tie) c.args.code parts c.args.prefer.now
 
   long : length new ≡ c.args.code.n
-  long = peeled_long last_of_equal c.args.code parts c.args.prefer.now c.requires.sound
+  long = peeled_long (is_last c.args.tie) c.args.code parts c.args.prefer.now c.requires.sound
 
   -- what stands in the part
   ordered : c.reorder.new.order ≡ padded 256 0 new
@@ -46,7 +46,7 @@ module _ (c : After-reorder) where
     vars = w.vars;
     coefs = w.coefs;
     order_long = ap length ordered ∙ padded-length 256 0 new (omega (arith, fits));
-    columns = λ t h. subst (λ (k : ℕ). k < c.args.code.n) (sym (front t h)) ((peeled_once last_of_equal c.args.code parts c.args.prefer.now c.requires.sound).inside t h);
+    columns = λ t h. subst (λ (k : ℕ). k < c.args.code.n) (sym (front t h)) ((peeled_once (is_last c.args.tie) c.args.code parts c.args.prefer.now c.requires.sound).inside t h);
   }
 
 pub invariant_of-edges : goal.invariant_of-edges

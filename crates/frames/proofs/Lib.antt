@@ -1,0 +1,9 @@
+pub mod Slots
+pub mod Reading
+pub mod Encoded
+pub mod OnCode
+pub mod Endings
+pub mod Accepted
+pub mod Decoded
+pub mod Narrow
+pub mod Theorem

@@ -1,0 +1,11 @@
+pub mod Work
+pub mod FrameLayout
+pub mod SlotSymbols
+pub mod Tones
+pub mod EncodeBits
+pub mod BitsToSyms
+pub mod Found
+pub mod Decode
+pub mod FrameTones
+pub mod FrameDecodes
+pub mod Promise

@@ -1,0 +1,11 @@
+pub mod VariableIndex
+pub mod StrongSlots
+pub mod Digits
+pub mod TakenOnce
+pub mod SymbolOrder
+pub mod DealtOnce
+pub mod Layouts
+pub mod ThereAndBack
+pub mod SpreadParts
+pub mod Examples
+pub mod Theorem

@@ -1,0 +1,7 @@
+use mathlib.Core.Path.{◌≡◌}
+use Rattle.lists.specs.Laid.{laid}
+use Rattle.lists.specs.Values.{values}
+use Rattle.layouts.proofs.maps.plain.Given as goal
+
+abbrev pub invariant-loop-i : goal.invariant-loop-i
+invariant-loop-i l = l.p-items ≡ laid (values l.i (λ i. i)) l.initial.p-items

@@ -1,0 +1,13 @@
+-- `layouts::symbols::to_slots` meets its contract. The invariant: the first j symbols stand in their slots.
+use native.Mathlib.Omega.{arith}
+use Rattle.lists.proofs.Placed.{placed_start, placed_on, placed_end}
+use Rattle.layouts.proofs.symbols.to_slots.Goals as goal
+
+pub loop-j-init : goal.loop-j-init
+loop-j-init c = (omega arith, placed_start _ _ _)
+
+pub loop-j-preserved : goal.loop-j-preserved
+loop-j-preserved c = (omega arith, placed_on _ _ _ c.loop-j.j _ c.loop-j.invariant.1)
+
+pub returns : goal.returns
+returns c = placed_end _ _ _ 52 _ _ (omega arith) c.loop-j.invariant.1

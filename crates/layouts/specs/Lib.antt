@@ -1,0 +1,9 @@
+pub mod VariableBits
+pub mod Slots
+pub mod Heavy
+pub mod SpreadHeavy
+pub mod Layout
+pub mod Maps
+pub mod Packing
+pub mod Symbols
+pub mod Promise

@@ -1,0 +1,9 @@
+pub mod Calls
+pub mod Given
+pub mod OwnWords
+pub mod RateCodes
+pub mod FrameFields
+pub mod Theorem
+pub mod StarredValues
+pub mod Silent
+pub mod AgainHolds

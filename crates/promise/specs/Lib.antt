@@ -1,0 +1,6 @@
+pub mod Calls
+pub mod FrameCalls
+pub mod FrameFields
+pub mod Promise
+pub mod Starred
+pub mod Again
