@@ -3,10 +3,10 @@
 //!
 //! The copies go to cargo's output folder and are never committed. Their arithmetic is the
 //! original's: the replacements open private items, make the text fit to be included and set a
-//! sibling beside `decode_soft`. One copy keeps the Rust's own exp and ln, and in the one that ours is
-//! held to document 01's stand in for them. Where the original is not as expected, the build stops and
-//! says what did not fit. The SHA-256 of the source is checked by compare/run; the exact replacements
-//! hold also without it.
+//! sibling beside `decode_soft` and one beside `decode_bits_prior_at`. One copy keeps the Rust's own
+//! exp and ln; in the one that ours is held to stand-ins take their place, as docs/DIFFERENCES.md
+//! says. Where the original is not as expected, the build stops and says what did not fit. The
+//! SHA-256 of the source is checked by compare/run; the exact replacements hold also without it.
 
 use std::path::{Path, PathBuf};
 use std::{env, fs};
@@ -104,42 +104,159 @@ const REPLACEMENTS: &[Replacement] = &[
         new: "    pub fn build_encoder(&mut self, order: &[usize]) {",
         times: 1,
     },
+    Replacement {
+        purpose: "open the count of bits with padding",
+        old: "\nconst PADDED_BITS: usize = 5 * K;",
+        new: "\npub const PADDED_BITS: usize = 5 * K;",
+        times: 1,
+    },
+    Replacement {
+        purpose: "open a layout's code",
+        old: "    fn code(self, rate: Rate) -> &'static NbCode {",
+        new: "    pub fn code(self, rate: Rate) -> &'static NbCode {",
+        times: 1,
+    },
+    Replacement {
+        purpose: "open a layout's tables",
+        old: "    fn tables(self, rate: Rate) -> &'static Tables {",
+        new: "    pub fn tables(self, rate: Rate) -> &'static Tables {",
+        times: 1,
+    },
+    Replacement {
+        purpose: "open the tables",
+        old: "\nstruct Tables {",
+        new: "\npub struct Tables {",
+        times: 1,
+    },
+    Replacement {
+        purpose: "open the packed positions",
+        old: "\n    pos: [u16; PADDED_BITS],",
+        new: "\n    pub pos: [u16; PADDED_BITS],",
+        times: 1,
+    },
+    Replacement {
+        purpose: "open the padded bits",
+        old: "\n    bit: [u16; PADDED_BITS],",
+        new: "\n    pub bit: [u16; PADDED_BITS],",
+        times: 1,
+    },
+    Replacement {
+        purpose: "open the slots",
+        old: "\n    slot: [u8; K],",
+        new: "\n    pub slot: [u8; K],",
+        times: 1,
+    },
+    Replacement {
+        purpose: "open the build of the tables",
+        old: "    fn new(map: BitMap, code: &NbCode) -> Self {",
+        new: "    pub fn new(map: BitMap, code: &NbCode) -> Self {",
+        times: 1,
+    },
 ];
 
-/// All that the sibling of `decode_soft` differs in: it also tells how many rounds were done, and the
-/// posteriors of a word that is found.
-const SIBLING: &[Replacement] = &[
-    Replacement {
-        purpose: "another name and a longer answer",
-        old: "pub fn decode_soft(&self, metrics: &[f32], known: usize, max_iter: usize) \
-            -> Result<Vec<u8>, Vec<f32>> {",
-        new: "pub fn decode_rounds(&self, metrics: &[f32], known: usize, max_iter: usize) \
-            -> (Option<Vec<u8>>, usize, Vec<f32>) {",
-        times: 1,
-    },
-    Replacement {
-        purpose: "number the rounds from 1",
-        old: "for _ in 0..max_iter {",
-        new: "for round in 1..=max_iter {",
-        times: 1,
-    },
-    Replacement {
-        purpose: "tell the satisfied round and its posteriors",
-        old: "return Ok(hard);",
-        new: "return (Some(hard), round, posts);",
-        times: 1,
-    },
-    Replacement {
-        purpose: "tell that all rounds were done",
-        old: "Err(posts)",
-        new: "(None, max_iter, posts)",
-        times: 1,
-    },
-];
+/// A function that stands beside one of the original's and is made of it.
+struct Sibling {
+    /// How the original's begins, and what ends it.
+    head: &'static str,
+    end: &'static str,
+    /// All that the sibling differs in.
+    differences: &'static [Replacement],
+}
 
-/// The method that the sibling is made of: how it begins, and what ends it.
-const DECODE_SOFT_HEAD: &str = "    pub fn decode_soft(";
-const METHOD_END: &str = "\n    }\n";
+/// It also tells how many rounds were done, and the posteriors of a word that is found.
+const DECODE_ROUNDS: Sibling = Sibling {
+    head: "    pub fn decode_soft(",
+    end: "\n    }\n",
+    differences: &[
+        Replacement {
+            purpose: "another name and a longer answer",
+            old: "pub fn decode_soft(&self, metrics: &[f32], known: usize, max_iter: usize) \
+                -> Result<Vec<u8>, Vec<f32>> {",
+            new: "pub fn decode_rounds(&self, metrics: &[f32], known: usize, max_iter: usize) \
+                -> (Option<Vec<u8>>, usize, Vec<f32>) {",
+            times: 1,
+        },
+        Replacement {
+            purpose: "number the rounds from 1",
+            old: "for _ in 0..max_iter {",
+            new: "for round in 1..=max_iter {",
+            times: 1,
+        },
+        Replacement {
+            purpose: "tell the satisfied round and its posteriors",
+            old: "return Ok(hard);",
+            new: "return (Some(hard), round, posts);",
+            times: 1,
+        },
+        Replacement {
+            purpose: "tell that all rounds were done",
+            old: "Err(posts)",
+            new: "(None, max_iter, posts)",
+            times: 1,
+        },
+    ],
+};
+
+/// It also tells which of its two ends without bits was met, 10 or 11; whether the word is from the
+/// list; how many rounds were done; and the last round's posteriors. All of it is what the sibling of
+/// `decode_soft` tells, or which way was taken.
+const DECODE_BITS_TOLD: Sibling = Sibling {
+    head: "pub fn decode_bits_prior_at(",
+    end: "\n}\n",
+    differences: &[
+        Replacement {
+            purpose: "another name",
+            old: "pub fn decode_bits_prior_at(",
+            new: "pub fn decode_bits_told(",
+            times: 1,
+        },
+        Replacement {
+            purpose: "a longer answer",
+            old: ") -> Option<Vec<u8>> {",
+            new: ") -> (Result<Vec<u8>, u8>, bool, usize, Vec<f32>) {",
+            times: 1,
+        },
+        Replacement {
+            purpose: "decode by the sibling of `decode_soft`",
+            old: "    let x = match c.decode_soft(&m, K, MAX_ITER) {\n        Ok(x) => x,\n",
+            new: "    let (word, rounds, post) = c.decode_rounds(&m, K, MAX_ITER);\n    \
+                let from_list = word.is_none();\n    \
+                let x = match word {\n        Some(x) => x,\n",
+            times: 1,
+        },
+        Replacement {
+            purpose: "tell 10 where there is no prior",
+            old: "Err(_) if !with_prior => return None,",
+            new: "None if !with_prior => return (Err(10), false, rounds, post),",
+            times: 1,
+        },
+        Replacement {
+            purpose: "go on with a prior",
+            old: "Err(post) => match fb {",
+            new: "None => match fb {",
+            times: 1,
+        },
+        Replacement {
+            purpose: "tell 10 without the list",
+            old: "Fallback::Bp => return None,",
+            new: "Fallback::Bp => return (Err(10), false, rounds, post),",
+            times: 1,
+        },
+        Replacement {
+            purpose: "tell 11",
+            old: "        return None;\n",
+            new: "        return (Err(11), from_list, rounds, post);\n",
+            times: 1,
+        },
+        Replacement {
+            purpose: "tell the bits",
+            old: "    Some((0..K_BITS).map(|i| packed[t.pos[i] as usize]).collect())\n",
+            new: "    let bits = (0..K_BITS).map(|i| packed[t.pos[i] as usize]).collect();\n    \
+                (Ok(bits), from_list, rounds, post)\n",
+            times: 1,
+        },
+    ],
+};
 
 /// Document 01's stand-ins, in the copy that ours is held to; `decode_soft` and its sibling have one
 /// exp each.
@@ -171,7 +288,10 @@ fn main() {
     let source = folder("HAZGUNEK_SOURCE", root.join("../shared/docs/src"));
     let nb = text(&source.join("crates/ion/src/fec/nb.rs"));
     let fec = text(&source.join("crates/ion/src/fec.rs"));
-    let own = with_sibling(REPLACEMENTS.iter().fold(nb, replaced));
+    let opened = REPLACEMENTS.iter().fold(nb, replaced);
+    let own = [DECODE_ROUNDS, DECODE_BITS_TOLD]
+        .iter()
+        .fold(opened, with_sibling);
     write(&out.join("nb_own.rs"), &own);
     write(&out.join("nb.rs"), &STAND_INS.iter().fold(own, replaced));
     write(
@@ -217,11 +337,14 @@ fn replaced(text: String, r: &Replacement) -> String {
     text.replace(r.old, r.new)
 }
 
-/// The text with the sibling after `decode_soft`.
-fn with_sibling(text: String) -> String {
-    let method = cut("nb.rs", &text, DECODE_SOFT_HEAD, METHOD_END);
-    let sibling = SIBLING.iter().fold(method.to_string(), replaced);
-    text.replacen(method, &format!("{method}\n{sibling}"), 1)
+/// The text with a sibling after the function that it is made of.
+fn with_sibling(text: String, sibling: &Sibling) -> String {
+    let original = cut("nb.rs", &text, sibling.head, sibling.end);
+    let made = sibling
+        .differences
+        .iter()
+        .fold(original.to_string(), replaced);
+    text.replacen(original, &format!("{original}\n{made}"), 1)
 }
 
 /// The piece of a file from `head`, which must occur once, to the first `end` after it, both kept.

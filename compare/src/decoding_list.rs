@@ -8,7 +8,7 @@ use crate::code_lists::{
 };
 use crate::damage::Change;
 use crate::decode_call::Decoding;
-use crate::line_floats::{METRICS_HEAD, Made, ZEROS, sent};
+use crate::line_floats::{FLOATS_HEAD, METRICS_HEAD, Made, ZEROS, sent};
 use crate::on_code::Call;
 
 const CALLS_HEAD: &str = "\
@@ -84,7 +84,14 @@ const LINES: &[Line] = &[
 
 /// This layer's fixed list, by the original alone where a call is not turned down before its rounds.
 pub fn list() -> String {
-    let heads = [CALLS_HEAD, CODE_HEAD, METRICS_HEAD, LIST_HEAD, DIGEST_HEAD];
+    let heads = [
+        CALLS_HEAD,
+        CODE_HEAD,
+        METRICS_HEAD,
+        FLOATS_HEAD,
+        LIST_HEAD,
+        DIGEST_HEAD,
+    ];
     let mut text = heads.concat();
     for (row, made) in asked::RATES.into_iter().zip(OF_RATES) {
         list_line(&mut text, (row, SEED, None, made, 52, 100));

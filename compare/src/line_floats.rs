@@ -7,6 +7,10 @@ use crate::oracle::{NbCode, mix};
 pub const METRICS_HEAD: &str = "\
 # Metrics are made by SplitMix64 from DRAWS. The first draws, each mod 32, are symbols: as many as KNOWN, or as the code has
 # information positions where that is less. What `encode` answers to them before the damage is the word that was sent.
+";
+
+/// How the draws after those of a word become its metrics.
+pub const FLOATS_HEAD: &str = "\
 # Then every draw gives a metric: that of variable 0 at value 0, at value 1 and so on to 31, then those of variable 1, up to N - 1.
 # The draw mod SPREAD, which is 1 to 32768, is d. The metric is d / 8, but (d + PEAK) / 8 at the value that was sent, PEAK being 0
 # to 32767. By RULE 1, where d is below 7, it is by d instead NaN, infinity, minus infinity, -0.0, or the float of bits 1,
@@ -54,7 +58,7 @@ impl Made {
     }
 
     /// The floats of a word, by the draws after `state`.
-    fn floats(self, word: &[u8], mut state: u64) -> Likelihoods {
+    pub fn floats(self, word: &[u8], mut state: u64) -> Likelihoods {
         let [_, _, spread, _] = self.arguments();
         let mut floats = Vec::new();
         for &symbol in word {
@@ -69,7 +73,7 @@ impl Made {
         }
     }
 
-    fn float(self, d: u64, is_sent: bool) -> Float {
+    pub fn float(self, d: u64, is_sent: bool) -> Float {
         let [_, _, _, peak] = self.arguments();
         let special = match self {
             Special(..) => &SPECIAL[..7],

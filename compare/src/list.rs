@@ -5,9 +5,11 @@
 
 use crate::decoding_list;
 use crate::field;
+use crate::frames_list;
 use crate::graph;
 use crate::list_decoding_list;
 use crate::peeling_list;
+use crate::rates_list;
 use crate::report::{Case, HeldTo, Tally};
 use crate::words_list;
 use std::fs;
@@ -41,6 +43,14 @@ const LISTS: &[List] = &[
     List {
         layer: "list_decoding",
         text: list_decoding_list::list,
+    },
+    List {
+        layer: "rates",
+        text: rates_list::list,
+    },
+    List {
+        layer: "frames",
+        text: frames_list::list,
     },
 ];
 

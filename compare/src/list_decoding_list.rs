@@ -7,7 +7,7 @@ use crate::code_lists::{
     NOTHING, ONE, TABLE, damage, write_line,
 };
 use crate::damage::Change;
-use crate::line_floats::{METRICS_HEAD, Made, ZEROS, posteriors, sent};
+use crate::line_floats::{FLOATS_HEAD, METRICS_HEAD, Made, ZEROS, posteriors, sent};
 use crate::list_decode_call::ListDecoding;
 use crate::on_code::Call;
 use Made::{Finite, Plain, Sevenths, Special};
@@ -195,7 +195,14 @@ const OF_RATES: [(Made, Made); 4] = [
 
 /// This layer's fixed list, by the original alone where a call is not turned down.
 pub fn list() -> String {
-    let heads = [CALLS_HEAD, CODE_HEAD, METRICS_HEAD, LIST_HEAD, DIGEST_HEAD];
+    let heads = [
+        CALLS_HEAD,
+        CODE_HEAD,
+        METRICS_HEAD,
+        FLOATS_HEAD,
+        LIST_HEAD,
+        DIGEST_HEAD,
+    ];
     let mut text = heads.concat();
     for (row, (made, around)) in asked::RATES.into_iter().zip(OF_RATES) {
         list_line(&mut text, (row, SEED, None, made, 52, around, 10));

@@ -1,6 +1,7 @@
 //! The differences that docs/DIFFERENCES.md lists, each at its smallest input: the original still
 //! does what the document says of it. What ours does instead is compared with the other calls.
 
+use crate::listed_frames;
 use crate::oracle::{GF, NbCode, OwnCode, even_degrees};
 use crate::report::{Case, HeldTo, Tally};
 use std::panic::{catch_unwind, set_hook, take_hook};
@@ -8,7 +9,7 @@ use std::panic::{catch_unwind, set_hook, take_hook};
 /// What the original makes of an input: of an answer that is more than one number, the number that
 /// the document names.
 #[derive(PartialEq)]
-enum Outcome {
+pub enum Outcome {
     Answers(usize),
     Panics,
 }
@@ -22,7 +23,7 @@ impl std::fmt::Display for Outcome {
     }
 }
 
-type Call = fn() -> usize;
+pub type Call = fn() -> usize;
 
 /// Each input, what the document says of the original, and the call.
 const LISTED: &[(&str, Outcome, Call)] = &[
@@ -273,7 +274,7 @@ pub fn compare() -> u64 {
     // The panics are expected and say nothing here.
     let hook = take_hook();
     set_hook(Box::new(|_| {}));
-    for (input, said, call) in LISTED {
+    for (input, said, call) in LISTED.iter().chain(listed_frames::LISTED) {
         let found = catch_unwind(call).map_or(Outcome::Panics, Outcome::Answers);
         let mut case = Case::held_to(HeldTo::Listed);
         case.value("outcome:", &found, said);

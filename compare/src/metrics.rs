@@ -152,7 +152,7 @@ fn set_sent(random: &mut Random, vector: &mut [f32; 32], symbol: usize, amplitud
     vector[symbol] += amplitude * amplitude;
 }
 
-fn special(random: &mut Random) -> f32 {
+pub fn special(random: &mut Random) -> f32 {
     f32::from_bits(SPECIAL[random.below(SPECIAL.len())])
 }
 

@@ -1,6 +1,6 @@
 //! The original: build.rs's copies of nb.rs, beside the enum `Rate` of fec.rs, which they use.
 
-// Most of the original is not called yet.
+// Not all of the original is called.
 #[allow(dead_code)]
 mod fec {
     include!(concat!(env!("OUT_DIR"), "/rate.rs"));
@@ -16,8 +16,19 @@ mod fec {
     }
 }
 
-pub use fec::nb::{GF, InfoSet, NbCode, RATES, code_at, degrees_for, even_degrees, mix};
+pub use fec::Rate;
+pub use fec::nb::{
+    BitMap, CHECKIN_VARIABLE_BITS, Fallback, GF, InfoSet, Layout, NbCode, RATES, Tables,
+    bits_to_syms, code_at, decode_bits, decode_bits_prior, decode_bits_prior_at,
+    decode_bits_prior_fb, decode_bits_prior_with, decode_bits_told, degrees_for, encode_bits,
+    encode_bits_at, encode_bits_with, even_degrees, mix, n_for,
+};
 pub use fec::nb_own::NbCode as OwnCode;
+
+/// A frame's decoding with the Rust's own exp and ln.
+pub mod own {
+    pub use super::fec::nb_own::{BitMap, Fallback, InfoSet, Layout, decode_bits_told};
+}
 
 /// Since `with_peeled_info` takes a code and gives another.
 impl Clone for NbCode {

@@ -123,6 +123,11 @@ impl Tally {
         self.differences
     }
 
+    /// So far.
+    pub fn cases(&self) -> u64 {
+        self.cases
+    }
+
     /// Prints the call's line and gives its number of differences.
     pub fn finish(self) -> u64 {
         println!(

@@ -1,7 +1,7 @@
 //! How decodings end, and after how many rounds.
 
 /// Rounds are counted up to each of these, past the one before.
-const UP_TO: [u32; 9] = [0, 1, 2, 4, 8, 16, 32, 64, 100];
+pub const UP_TO: [u32; 9] = [0, 1, 2, 4, 8, 16, 32, 64, 100];
 
 /// The numbers that turn a decoding down before its rounds.
 const TURNED_DOWN: [u8; 5] = [2, 3, 6, 7, 9];

@@ -30,7 +30,7 @@ const LIST_HEAD: &str = "\
 
 /// Symbols to give to `encode`: how many, the seed of their draws, and what these are taken modulo.
 #[derive(Clone, Copy)]
-struct Drawn(usize, u64, u64);
+pub struct Drawn(pub usize, pub u64, pub u64);
 
 /// A change of a word: a place, and what the symbol there is xored with.
 #[derive(Clone, Copy)]
@@ -214,7 +214,7 @@ fn call(built: &NbCode, asks: Asks) -> Call {
     }
 }
 
-fn symbols(Drawn(count, mut state, limit): Drawn) -> Vec<u8> {
+pub fn symbols(Drawn(count, mut state, limit): Drawn) -> Vec<u8> {
     (0..count)
         .map(|_| (mix(&mut state) % limit) as u8)
         .collect()
