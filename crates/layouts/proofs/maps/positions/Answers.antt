@@ -7,7 +7,3 @@ use Rattle.layouts.proofs.maps.positions.Goals as goal
 
 pub spread_over-requires : goal.spread_over-requires
 spread_over-requires c = rw (c.deref.ensures.0, c.heavy.ensures) (heavy_distinct c.args.degrees.now, heavy_few c.args.degrees.now)
-
-pub returns-in-SpreadHeavy : goal.returns-in-SpreadHeavy
-unfolding pos_of
-returns-in-SpreadHeavy c = rw c.in-SpreadHeavy.is (c.spread_over.ensures ∙ ap spread_over (c.deref.ensures.0 ∙ c.heavy.ensures))

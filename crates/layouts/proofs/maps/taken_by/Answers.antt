@@ -27,9 +27,6 @@ module _ (l : List ℕ) (e : l ≡ values 52 symbol_order) where
 pub loop-r-init : goal.loop-r-init
 loop-r-init c = let e = c.deref-j-items.ensures.0 ∙ c.symbol_order-order.ensures in (omega (arith, long _ e), e, placed_start _ _ _)
 
-pub bounds-slots-r : goal.bounds-slots-r
-bounds-slots-r c = omega (arith, long _ c.loop-r.invariant.1)
-
 pub bounds-slot-j : goal.bounds-slot-j
 bounds-slot-j c = inside _ c.loop-r.invariant.1 c.loop-r.r (omega (arith, long _ c.loop-r.invariant.1))
 

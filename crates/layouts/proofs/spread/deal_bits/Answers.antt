@@ -47,9 +47,6 @@ offset_bounds-deref-t c = omega (arith, ap length (c.deref.ensures.0 ∙ c.varia
 pub overflow_cast-pos : goal.overflow_cast-pos
 overflow_cast-pos c = omega (arith, c.deal-p.ensures, place-fits (goal.at.overflow_cast-pos c).In-loop-t)
 
-pub offset_bounds-pos-b : goal.offset_bounds-pos-b
-offset_bounds-pos-b c = omega (arith, bit _ c.loop-t.t (c.deref.ensures.0 ∙ c.variable_bits-bits.ensures), bit-inside (goal.at.offset_bounds-pos-b c).In-loop-t)
-
 pub bounds-pos-b : goal.bounds-pos-b
 bounds-pos-b c = omega (arith, bit _ c.loop-t.t (c.deref.ensures.0 ∙ c.variable_bits-bits.ensures), bit-inside (goal.at.bounds-pos-b c).In-loop-t)
 

@@ -8,6 +8,3 @@ loop-i-init c = (omega arith, omega arith, placed_start _ _ _)
 
 pub loop-i-preserved : goal.loop-i-preserved
 loop-i-preserved c = (omega arith, omega arith, placed_on _ _ _ c.loop-i.i _ c.loop-i.invariant.2)
-
-pub returns : goal.returns
-returns c = placed_end _ _ _ _ _ _ (omega arith) c.loop-i.invariant.2

@@ -12,6 +12,3 @@ pub loop-i-preserved : goal.loop-i-preserved
 loop-i-preserved c =
     let bits = c.args.bits.now in
     (omega arith, omega arith, placed_on _ (λ i. nth bits i % 2) _ c.loop-i.i _ c.loop-i.invariant.2)
-
-pub returns : goal.returns
-returns c = placed_end _ _ _ 256 _ _ (omega arith) c.loop-i.invariant.2

@@ -8,6 +8,3 @@ loop-j-init c = (omega arith, placed_start _ _ _)
 
 pub loop-j-preserved : goal.loop-j-preserved
 loop-j-preserved c = (omega arith, placed_on _ _ _ c.loop-j.j _ c.loop-j.invariant.1)
-
-pub returns : goal.returns
-returns c = placed_end _ _ _ 52 _ _ (omega arith) c.loop-j.invariant.1

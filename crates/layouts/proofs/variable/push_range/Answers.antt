@@ -33,8 +33,3 @@ push-requires c = (omega arith, omega (arith, count _ _ _ _ c.loop-b.invariant.l
 
 pub loop-b-preserved : goal.loop-b-preserved
 loop-b-preserved c = record { above = omega arith; below = omega arith; listed = c.push.ensures.items ∙ more _ _ _ _ c.loop-b.invariant.above c.loop-b.invariant.listed }
-
-pub returns : goal.returns
-returns c =
-    let e : c.loop-b.b ≡ c.args.to = omega arith in
-    c.loop-b.invariant.listed ∙ ap (λ (b : ℕ). c.args.bits.now.items ++ values (b - c.args.from) (λ k. c.args.from + k)) e

@@ -34,9 +34,6 @@ peel-requires-clause-lengths c =
       c.build-code.auto.chk ∙ c.requires.work_fits.chk,
     )
 
-pub peel-requires-clause-low : goal.peel-requires-clause-low
-peel-requires-clause-low c = low c.args.rate c.requires.is_rate c.lay.new.degrees c.lay.ensures
-
 pub returns-in-Echelon-clause-value : goal.returns-in-Echelon-clause-value
 unfolding rate_code
 returns-in-Echelon-clause-value c =
