@@ -1,7 +1,4 @@
 -- `layouts::maps::positions` meets its contract.
-use mathlib.Core.Path.{ap, ◌∙◌}
-use Rattle.layouts.specs.Maps.{pos_of}
-use Rattle.layouts.specs.SpreadHeavy.{spread_over}
 use Rattle.layouts.proofs.StrongSlots.{heavy_distinct, heavy_few}
 use Rattle.layouts.proofs.maps.positions.Goals as goal
 

@@ -1,6 +1,6 @@
 -- `layouts::spread::fill` meets its contract. The invariant: the first i bits stand at their places.
 use native.Mathlib.Omega.{arith}
-use Rattle.lists.proofs.Placed.{placed_start, placed_on, placed_end}
+use Rattle.lists.proofs.Placed.{placed_start, placed_on}
 use Rattle.layouts.proofs.spread.fill.Goals as goal
 
 pub loop-i-init : goal.loop-i-init

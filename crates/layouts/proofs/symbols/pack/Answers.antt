@@ -2,7 +2,7 @@
 use Prim.Native.Nat.{◌%◌}
 use native.Mathlib.Omega.{arith}
 use Rattle.lists.specs.Entry.{nth}
-use Rattle.lists.proofs.Placed.{placed_start, placed_on, placed_end}
+use Rattle.lists.proofs.Placed.{placed_start, placed_on}
 use Rattle.layouts.proofs.symbols.pack.Goals as goal
 
 pub loop-i-init : goal.loop-i-init

@@ -1,6 +1,6 @@
 -- `layouts::symbols::to_slots` meets its contract. The invariant: the first j symbols stand in their slots.
 use native.Mathlib.Omega.{arith}
-use Rattle.lists.proofs.Placed.{placed_start, placed_on, placed_end}
+use Rattle.lists.proofs.Placed.{placed_start, placed_on}
 use Rattle.layouts.proofs.symbols.to_slots.Goals as goal
 
 pub loop-j-init : goal.loop-j-init

@@ -1,15 +1,13 @@
 -- `rates::build::build` meets its contract: what its steps leave is the code of the rate for the set.
-use Prim.Native.Nat.{ℕ, ◌<◌, ◌≤◌}
+use Prim.Native.Nat.{ℕ}
 use mathlib.Core.Path.{◌≡◌, sym, ap, ◌∙◌}
 use mathlib.Core.List.{List}
-use native.Mathlib.Omega.{arith}
 use lib.ListN.{length}
-use Rattle.lists.specs.Entry.{nth}
 use Rattle.graph.specs.declared.Code.{Code}
 use Rattle.peeling.specs.Best.{last_of_equal}
 use Rattle.rates.specs.declared.Rate.{Rate}
 use Rattle.rates.specs.declared.InfoSet.{InfoSet}
-use Rattle.rates.specs.Rate.{rate_degrees, IsRate}
+use Rattle.rates.specs.Rate.{rate_degrees}
 use Rattle.rates.specs.RateCode.{rate_code}
 use Rattle.rates.proofs.RateDegrees.{degrees-length}
 use Rattle.rates.proofs.RateCode.{echelon_n}
@@ -18,10 +16,6 @@ use Rattle.rates.proofs.build.build.Goals as goal
 
 long : (r : Rate) (degrees : List ℕ) → degrees ≡ rate_degrees r → length degrees ≡ r.n
 long r degrees e = ap length e ∙ degrees-length r
-
-low : (r : Rate) → IsRate r → (degrees : List ℕ) → degrees ≡ rate_degrees r → (v : ℕ) → v < length degrees → nth degrees v ≤ 256
-low r ok degrees e v h =
-    omega (arith, ap (λ (l : List ℕ). nth l v) e, ok.buildable.low v (omega (arith, long r degrees e)), ok.buildable.m_small)
 
 pub peel-requires-clause-sound : goal.peel-requires-clause-sound
 peel-requires-clause-sound c =
