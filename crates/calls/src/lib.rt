@@ -1,5 +1,5 @@
 // How a call is turned down: the refusals with document 01's numbers, what a call then leaves in each kind of lent part (specs/), and the laws that each call's
-// proof cites (proofs/).
+// proof cites (proofs/). And how one part is copied to another.
 #![tactic(auto)]
 
 ghost use Rattle.std.specs.Prelude.{◌≡◌, Some};
@@ -7,6 +7,8 @@ ghost use Rattle.calls.specs.Refusal.{number_of};
 ghost use Rattle.calls.specs.Reason.{reason};
 
 use std::fmt;
+
+pub mod copy;
 
 // The discriminants are the numbers.
 #[derive(Clone, Copy, Debug, PartialEq, Eq)]

@@ -59,7 +59,7 @@ module _ (g : Graph) (order : List ℕ) (posteriors : List Float) where
 
   -- ---- the base and the two values
 
-  base-length : length base ≡ g.n
+  pub base-length : length base ≡ g.n
   unfolding base_word
   base-length = encoding-length g order (values (length positions) first)
 

@@ -5,6 +5,7 @@ ghost use Rattle.candidates.specs.GeneratorRows.{row_of, Generators};
 ghost use Rattle.candidates.specs.Tried.{tried};
 
 use crate::score::{flip, score};
+use calls::copy::copy;
 
 // All combinations of w generators, which stand in rows of `h` with their supports, added to the word that stands in `best`: the one of the greatest score is left there.
 pub fn try_all(
@@ -22,7 +23,7 @@ pub fn try_all(
     ensures { best.new ≡ (tried metrics.now (row_of (length best.old) h.now) best.old (2 ^ w - 1)).best }
 {
     let n = best.len();
-    current.copy_from_slice(best);
+    copy(best, current);
     let mut cur = score(metrics, current);
     let mut most = cur;
     let steps = (1u32 << w) - 1;
@@ -36,7 +37,7 @@ pub fn try_all(
         cur = flip(metrics, &h[from..to], &h[places..end], current, cur);
         if cur > most {
             most = cur;
-            best.copy_from_slice(current);
+            copy(current, best);
         }
     }
 }

@@ -19,7 +19,6 @@ use Rattle.calls.proofs.Refusals.{by_ok, second}
 use Rattle.graph.specs.declared.Code.{Code}
 use Rattle.graph.specs.Parts.{Parts}
 use Rattle.lent.specs.Held.{Held}
-use Rattle.vectors.specs.Float32.{zero32}
 use Rattle.rounds.specs.Tanner.{tanner_in}
 use Rattle.rounds.specs.Ready.{Narrow}
 use Rattle.rounds.specs.Rounds.{posteriors_after, decisions}
@@ -102,12 +101,12 @@ module _ (l : Held) (h pivots : ℕ) (rest : Bool) (limit : ℕ) {sound : Held} 
   pub came_work : h ≡ 65536
   came_work = (tests_work l.code l.parts h pivots rest limit came.0).0
 
-  -- the rounds' parts have their lengths: the cleared vectors, the metrics and the cleared matrix
-  pub came_lengths : (matrix : List ℕ) {left : List ℕ} (vectors : List Float) {floats : List Float} {metrics : ℕ} → h ≡ length matrix → left ≡ replicate (length matrix) 0
-      → floats ≡ replicate (length vectors) zero32 → length vectors ≡ Work.vectors_length → metrics ≡ l.code.n * 32
-      → (length floats ≡ Work.vectors_length) × (metrics ≡ sound.code.n * 32) × (length left ≡ 65536)
-  came_lengths matrix vectors same cleared blank long own = (
-    ap length blank ∙ length-replicate (length vectors) zero32 ∙ long,
+  -- the rounds' parts have their lengths: vectors as many as were lent, the metrics and the cleared matrix
+  pub came_lengths : (matrix : List ℕ) {left : List ℕ} (vectors : List Float) {floats metrics : ℕ} → h ≡ length matrix → left ≡ replicate (length matrix) 0
+      → floats ≡ length vectors → length vectors ≡ Work.vectors_length → metrics ≡ l.code.n * 32
+      → (floats ≡ Work.vectors_length) × (metrics ≡ sound.code.n * 32) × (length left ≡ 65536)
+  came_lengths matrix vectors same cleared many long own = (
+    many ∙ long,
     own ∙ ap (λ (v : Held). v.code.n * 32) (sym came_same),
     ap length cleared ∙ length-replicate (length matrix) 0 ∙ sym same ∙ came_work,
   )

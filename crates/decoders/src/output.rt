@@ -7,6 +7,7 @@ ghost use Rattle.decoders.specs.BeliefPropagation.{ended_by};
 
 use crate::Decoding;
 use calls::Refusal;
+use calls::copy::copy;
 use rounds::rounds::Ended;
 use rounds::rows::POSTERIORS;
 
@@ -15,7 +16,7 @@ pub fn copy_posteriors(n: usize, vectors: &[f32], posteriors: &mut [f32])
     ensures { posteriors.new ≡ chain n (posts vectors.now) }
 {
     let from = POSTERIORS * 32;
-    posteriors.copy_from_slice(&vectors[from..from + n * 32]);
+    copy(&vectors[from..from + n * 32], posteriors);
 }
 
 // What a decoding answers after its rounds: the word is written where one of them satisfied all checks. The decisions in front of h go.
@@ -28,7 +29,7 @@ pub fn finish(ended: Ended, h: &mut [u8], word: &mut [u8]) -> Decoding
 {
     if ended.satisfied {
         let n = word.len();
-        word.copy_from_slice(&h[..n]);
+        copy(&h[..n], word);
         h.fill(0);
         return Decoding {
             answer: Ok(()),

@@ -2,7 +2,7 @@
 ghost use Rattle.std.specs.Prelude.{◌≡◌, ℕ, ◌+◌, ◌*◌, ◌<◌, ◌≤◌, not, eqb, length};
 ghost use Rattle.lists.specs.Entry.{nth};
 ghost use Rattle.calls.specs.Refusal.{first_of, answered};
-ghost use Rattle.calls.specs.Parts.{worked};
+ghost use Rattle.calls.specs.Parts.{worked, written};
 ghost use Rattle.vectors.specs.Float32.{zero32};
 ghost use Rattle.decoders.specs.BeliefPropagation.{wide, tests};
 ghost use Rattle.decoders.specs.ListDecode.{not_finite};
@@ -63,7 +63,7 @@ fn narrow<'s, 'a>(
     Ok(sound)
 }
 
-// The same, with the vectors cleared, of which it has no need.
+// The same. A refused code leaves the vectors as a work part should be left; they are not touched otherwise, since rounds write over them.
 pub fn accepted<'s, 'a>(
     code: &'s Lent<'a>,
     limit: u32,
@@ -75,14 +75,13 @@ pub fn accepted<'s, 'a>(
     ensures answer { result ≡ answered (first_of (tests code.now.code code.now.parts (length h.old) (length pivots.old) rest limit)) code.now }
     ensures h_after { h.new ≡ worked result 0 h.old }
     ensures pivots_after { pivots.new ≡ worked result 0 pivots.old }
-    ensures vectors_after { vectors.new ≡ worked result zero32 vectors.old }
+    ensures vectors_after { vectors.new ≡ written result (worked result zero32 vectors.old) vectors.old }
 {
     let found = narrow(code, limit, h, pivots, rest);
     if let Err(refusal) = &found {
-        if refusal.touches_nothing() {
-            return found;
+        if !refusal.touches_nothing() {
+            vectors.fill(0.0);
         }
     }
-    vectors.fill(0.0);
     found
 }

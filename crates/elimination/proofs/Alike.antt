@@ -3,22 +3,31 @@
 use mathlib.Core.Path.{◌≡◌, refl, sym, ap, ap₂, ◌∙◌}
 use mathlib.Core.Logic.{◌≢◌, ◌⊎◌, inl, inr, ⊎_elim}
 use mathlib.Core.Bool.{not}
+use mathlib.Core.List.{List, map}
 use Prim.Native.Nat.{ℕ, zero, suc, ◌-◌, ◌<◌, ◌≤◌}
 use native.Mathlib.Omega.{arith}
 use lib.Dec.{eqb}
 use lib.Bits.{bit_xor}
+use lib.ListN.{length}
 use Rattle.lists.specs.Iter.{iter}
+use Rattle.lists.specs.Among.{among}
+use Rattle.lists.specs.Chain.{chain}
 use Rattle.lists.specs.Changed.{changed}
 use Rattle.lists.specs.Choice.{pick}
+use Rattle.lists.specs.Entry.{nth}
+use Rattle.lists.specs.Keep.{keep_below}
 use Rattle.lists.specs.Lowest.{lowest}
 use Rattle.lists.proofs.Cases.{same_or_not, less_or_not}
+use Rattle.lists.proofs.Chain.{chain_ext}
 use Rattle.lists.proofs.Choice.{pick_less, pick_not_less}
 use Rattle.lists.proofs.Iter.{iter_ext}
 use Rattle.lists.proofs.Lowest.{lowest_is, lowest_ext}
+use Rattle.lists.proofs.Values.{values_ext, map_entries}
 use Rattle.field.specs.Field.{product, inverse}
 use Rattle.elimination.specs.Matrix.{Matrix}
-use Rattle.elimination.specs.Elimination.{scaled, swapped, cleared, State, pivot_row, pivoted, column_turn, eliminated}
+use Rattle.elimination.specs.Elimination.{scaled, swapped, cleared, State, pivot_row, pivoted, column_turn, eliminated, infos, table}
 use Rattle.elimination.proofs.Swapped.{swapped_r, swapped_p, swapped_other}
+use Rattle.elimination.proofs.Infos.{info_inside}
 
 pub eliminated_order : (m n : ℕ) (f g : ℕ → ℕ) (h : Matrix) → ((t : ℕ) → t < n → f t ≡ g t) → eliminated m f h n ≡ eliminated m g h n
 unfolding eliminated
@@ -96,3 +105,22 @@ unfolding eliminated iter
 eliminated_alike m n order h g inside e zero l = record { rank = refl; pivot = refl; same = e }
 eliminated_alike m n order h g inside e (suc k) l =
     column_turn_alike m n (order k) (eliminated m order h k) (eliminated m order g k) (inside k l) (eliminated_alike m n order h g inside e k (omega arith))
+
+-- ---- the positions that are left, and the table
+
+module _ {m n : ℕ} {s t : State} (w : Alike m n s t) where
+  pub infos_alike : infos n s ≡ infos n t
+  unfolding infos
+  infos_alike = ap₂ (λ (r : ℕ) (f : ℕ → ℕ). keep_below (λ j. not (among r f j)) n) w.rank w.pivot
+
+  row_alike : (i : ℕ) → i < m → map (s.matrix i) (infos n s) ≡ map (t.matrix i) (infos n s)
+  row_alike i h =
+      map_entries (s.matrix i) 0 (infos n s)
+      ∙ values_ext (length (infos n s)) (λ k. s.matrix i (nth (infos n s) k)) (λ k. t.matrix i (nth (infos n s) k)) 0 (λ k l. w.same i (nth (infos n s) k) h (info_inside n s k l))
+      ∙ sym (map_entries (t.matrix i) 0 (infos n s))
+
+  pub table_alike : s.rank ≤ m → table n s ≡ table n t
+  unfolding table
+  table_alike h =
+      chain_ext s.rank (λ i. map (s.matrix i) (infos n s)) (λ i. map (t.matrix i) (infos n s)) (λ i l. row_alike i (omega arith))
+      ∙ ap₂ (λ (r : ℕ) (l : List ℕ). chain r (λ i. map (t.matrix i) l)) w.rank infos_alike

@@ -4,9 +4,10 @@ use mathlib.Core.Path.{◌≡◌, sym, ap, ◌∙◌}
 use mathlib.Core.Logic.{◌≢◌, ◌⊎◌, inl, inr, ⊎_elim}
 use mathlib.Core.Bool.{Bool, not}
 use Prim.Native.Nat.{ℕ, ◌+◌, ◌-◌, ◌*◌, ◌<◌, ◌≤◌}
-use native.Mathlib.Nat.{mul_comm, mul-add, mul-le-mul_left, mul-le-mul_right}
+use native.Mathlib.Nat.{mul_comm, mul-zero, mul-add, mul-le-mul_left, mul-le-mul_right}
 use native.Mathlib.Omega.{arith}
 use borrow.Author.Tests.{not-true}
+use lib.Dec.{lit≤}
 use lib.ListN.{length}
 use Rattle.lists.specs.Among.{among}
 use Rattle.lists.specs.Entry.{nth}
@@ -53,6 +54,14 @@ half_square a b h l =
 pub square : (a b : ℕ) → a + b ≤ 256 → a * b ≤ 16384
 square a b l =
     ⊎_elim (λ h. half_square a b (omega arith) l) (λ h. rw (mul_comm a b) (half_square b a (omega arith) (omega arith))) (less_or_not a 128)
+
+-- a number and what is left of n, whether or not the number is at most n
+pub rest_square : (n a : ℕ) → n ≤ 256 → a * (n - a) ≤ 16384
+rest_square n a l =
+    ⊎_elim
+    (λ h. square a (n - a) (omega arith))
+    (λ (h : n ≤ a). let e : n - a ≡ 0 = omega arith in rw (e, mul-zero a) (lit≤ tt))
+    (less_or_not a n)
 
 -- ---- of the state that elimination gives
 

@@ -1,13 +1,18 @@
 -- The sum of a factor's multiples at the digits of an element is the product of the two.
 -- Assumes nothing.
-use Rattle.std.proofs.Common.{◌≡◌, ℕ, ◌+◌, ◌*◌, ◌/◌, ◌%◌, ◌^◌, ◌<◌, sym, refl, ap, ◌∙◌, arith}
+use Rattle.std.proofs.Common.{◌≡◌, ℕ, ◌+◌, ◌*◌, ◌/◌, ◌%◌, ◌^◌, ◌<◌, ◌≤◌, sym, refl, ap, ◌∙◌, le_of_suc-le-suc, mul-le-mul_right, arith}
 use lib.Bits.{bit_xor}
 use lib.Pow.{field}
 use Rattle.lists.proofs.Computed.{equal1, equal2}
 use Rattle.field.specs.Field.{product}
 use Rattle.field.specs.Multiples.{multiples_of, combined}
 use Rattle.field.specs.declared.multiples.Multiples.{Multiples}
+use Rattle.field.proofs.Sum.{mod2}
 use Rattle.field.proofs.Product.{mod32, product-mod, product-mod_left, product_comm, product_assoc, one_product}
+
+-- a digit times a number is at most the number
+pub digit_le : (a b : ℕ) → (a % 2) * b ≤ b
+digit_le a b = omega (arith, mul-le-mul_right b (le_of_suc-le-suc (mod2 a)))
 
 -- ---- the multiples, each x times the one before
 

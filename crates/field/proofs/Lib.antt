@@ -6,3 +6,4 @@ pub mod Combined
 pub mod Field
 pub mod Logarithms
 pub mod Generator
+pub mod Width

@@ -12,6 +12,7 @@ ghost use Rattle.frames.specs.SlotSymbols.{slot_symbols};
 use crate::decode::Fallback;
 use crate::layout;
 use calls::Refusal;
+use calls::copy::copy;
 use decoders::{Decoding, belief_propagation, list_decoding};
 use layouts::{BitMap, Tables, padding_used};
 use lent::Sound;
@@ -83,7 +84,7 @@ fn take_back(code: &Sound, tables: &Tables, word: &[u8], bits: &mut [u8]) -> Res
     if padding_used(&padded) {
         return Err(Refusal::Padding);
     }
-    bits.copy_from_slice(&padded[..256]);
+    copy(&padded[..256], bits);
     Ok(())
 }
 

@@ -7,7 +7,7 @@ use mathlib.Core.List.{[], ◌∷◌, ◌++◌}
 use Rattle.std.specs.Prelude.{Ok}
 use Rattle.calls.specs.declared.Refusal.TheVariants.{Size, Length, Malformed, Misencoded}
 use Rattle.calls.specs.Refusal.{first_of, answered, misfits}
-use Rattle.calls.proofs.Refusals.{pass, by_ok}
+use Rattle.calls.proofs.Refusals.{pass, alike, by_ok}
 use Rattle.graph.specs.declared.Code.{Code}
 use Rattle.graph.specs.Sizes.{too_large, code_lengths}
 use Rattle.graph.specs.Parts.{Parts}
@@ -30,6 +30,9 @@ module _ (c : Code) (p : Parts) where
 
     pub early_fits : Fits c p
     early_fits = fit.0
+
+    pub early_work : (h ≡ 65536) × (pivots ≡ 256)
+    early_work = let a = (alike (matrix_lengths h pivots) rest fit.1).0 in (a.0, a.1.0)
 
   pub late_accepted : {u : Unit {0}} → Fits c p → Ok u ≡ answered (first_of ((malformed c p, Malformed) ∷ (misencoded c p, Misencoded) ∷ [])) tt → IsAccepted c p
   late_accepted f e =

@@ -203,7 +203,7 @@ module _ (last : Bool) (edges : Edges) (coef : List ℕ) (prefer : List ℤ) whe
       pub stands_none : None ≡ followed_by edges known counted → m ≤ one_unknown g (marked known)
       stands_none e = none (position (λ u. eqb u 1) counted) refl e
 
-      abbrev key : ℕ → Key
+      abbrev pub key : ℕ → Key
       key v = (total m (λ c. pick (eqb (nth counted c) 2) (times v (symbols edges c)) 0), get_or prefer v (pos 0))
 
       pub record Picked (v : ℕ) : Type 0 where

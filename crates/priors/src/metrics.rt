@@ -8,6 +8,7 @@ ghost use Rattle.lists.specs.Values.{values};
 ghost use Rattle.vectors.specs.Vector.{at};
 ghost use Rattle.priors.specs.WithPriors.{is_one, with_bit, with_bits, with_priors};
 
+use calls::copy::copy;
 use vectors::vector::{load, store};
 
 // Whether bit k of five, the most significant first, is 1.
@@ -83,7 +84,7 @@ pub fn with_priors(
     requires positions_inside { (j : ℕ) → j < 52 → nth info.now (nth slot.now j) * 32 + 32 ≤ length metrics.now }
     ensures { with.new ≡ with_priors (nth bit.now) (λ j. nth info.now (nth slot.now j)) prior.now metrics.now }
 {
-    with.copy_from_slice(metrics);
+    copy(metrics, with);
     for (j, s) in slot.iter().enumerate() {
         let place = info[*s as usize] as usize;
         let p = load(with, place);

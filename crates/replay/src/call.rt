@@ -1,6 +1,6 @@
 // The calls that a case may name, in the order of a tally.
 ghost use Rattle.std.specs.Prelude.{◌≡◌, ◌≢◌, Some, MatchResult};
-ghost use Rattle.replay.specs.Call.{name_of};
+ghost use Rattle.replay.specs.Call.{name_of, takes};
 ghost use Rattle.replay.specs.declared.call.Call.{Call as AnyCall};
 ghost use Rattle.replay.specs.declared.case.CaseError.TheVariants.{NotUnderstood};
 
@@ -12,8 +12,11 @@ use crate::frame_decodings::{
     decode_bits, decode_bits_prior, decode_bits_prior_at, decode_bits_prior_fb,
     decode_bits_prior_with,
 };
-use crate::given::{Metrics, read_symbols};
-use crate::lending::{Sent, SentFrame, code_and_changed_word, code_and_preferences, damaged};
+use crate::given::read_symbols;
+use crate::lending::{
+    SentFrame, code_and_changed_word, code_and_preferences, damaged, sent_and_limits,
+    sent_and_posteriors,
+};
 use crate::{code_calls, field_calls, frame_calls, graph_calls, rate_calls};
 use std::alloc::Global;
 use std::fmt;
@@ -135,6 +138,30 @@ impl fmt::Display for Call {
 }
 
 impl Call {
+    // Whether a case of this call has so many numbers: its arguments and then its answers. `draws` has as many answers as it has draws, at most 16.
+    pub fn takes(self, count: usize) -> bool
+        ensures { result ≡ takes self count }
+    {
+        match self {
+            Call::Draws => 3 <= count && count <= 18,
+            Call::Inv | Call::Spread => count == 2,
+            Call::Mul | Call::NFor => count == 3,
+            Call::EvenDegrees | Call::DegreesFor => count == 4,
+            Call::BitsToSyms | Call::EncodeBits => count == 6,
+            Call::EncodeBitsWith => count == 7,
+            Call::EncodeBitsAt => count == 8,
+            Call::DecodeBits => count == 10,
+            Call::K | Call::N => count == 11,
+            Call::Degree | Call::InfoPositions => count == 12,
+            Call::Encode | Call::PeelPicks | Call::CodeAt => count == 14,
+            Call::ChecksOk | Call::DecodeBitsPrior => count == 16,
+            Call::InfoOf | Call::WithPeeledInfo | Call::DecodeBitsPriorWith => count == 17,
+            Call::New | Call::Decode | Call::DecodeBitsPriorFb => count == 18,
+            Call::DecodeSoft | Call::DecodeBitsPriorAt => count == 19,
+            Call::ListDecode => count == 22,
+        }
+    }
+
     // The arguments are taken from the fields.
     pub fn answers(self, alloc: Global, fields: &mut Fields<'_>) -> Result<Answers, CaseError> {
         match self {
@@ -175,20 +202,15 @@ impl Call {
                 Ok(code_calls::with_peeled_info(alloc, code, &prefer)?)
             }
             Call::DecodeSoft => {
-                let sent = Sent::read(alloc, fields)?;
-                let known = u32::try_from(sent.known)?;
-                Ok(code_calls::decode_soft(alloc, &sent, known, fields.number()?)?)
+                let (sent, known, limit) = sent_and_limits(alloc, fields)?;
+                Ok(code_calls::decode_soft(alloc, &sent, known, limit)?)
             }
             Call::Decode => {
-                let sent = Sent::read(alloc, fields)?;
-                let known = u32::try_from(sent.known)?;
-                Ok(code_calls::decode(alloc, &sent, known, fields.number()?)?)
+                let (sent, known, limit) = sent_and_limits(alloc, fields)?;
+                Ok(code_calls::decode(alloc, &sent, known, limit)?)
             }
             Call::ListDecode => {
-                let sent = Sent::read(alloc, fields)?;
-                let metrics = Metrics::read(fields)?;
-                let width = fields.number()?;
-                let posteriors = metrics.floats(alloc, &mut metrics.generator(), &sent.word)?;
+                let (sent, posteriors, width) = sent_and_posteriors(alloc, fields)?;
                 Ok(code_calls::list_decode(alloc, &sent, &posteriors, width)?)
             }
             Call::NFor => Ok(rate_calls::n_for(alloc, fields.number()?)?),

@@ -61,37 +61,73 @@ pub fn code_and_preferences(
     Ok((code, prefer))
 }
 
-// CODE DAMAGE RULE DRAWS SPREAD PEAK KNOWN: the code, the word that was sent, and its metrics. The word is of the code before the damage.
+// CODE DAMAGE RULE DRAWS SPREAD PEAK KNOWN
+#[derive(Clone, Copy)]
+struct Sending {
+    shape: Shape,
+    damage: Damage,
+    metrics: Metrics,
+    known: u64,
+}
+
+// The code, the word that was sent, and its metrics. The word is of the code before the damage.
 #[derive(Drop)]
 pub struct Sent {
     pub code: Code,
     pub word: Vec<u8>,
     pub metrics: Vec<f32>,
-    pub known: u64,
 }
 
-impl Sent {
+impl Sending {
+    fn read(fields: &mut Fields<'_>) -> Result<Self, CaseError> {
+        Ok(Sending {
+            shape: Shape::read(fields)?,
+            damage: Damage::read(fields)?,
+            metrics: Metrics::read(fields)?,
+            known: fields.next()?,
+        })
+    }
+
     // The first draws, each mod 32, are symbols: as many as KNOWN, or as the code has information positions where that is less. The metrics go on after them.
-    pub fn read(alloc: Global, fields: &mut Fields<'_>) -> Result<Sent, CaseError> {
-        let shape = Shape::read(fields)?;
-        let damage = Damage::read(fields)?;
-        let metrics = Metrics::read(fields)?;
-        let known = fields.next()?;
-        let mut code = shape.code(alloc)?;
+    fn sent(&self, alloc: Global) -> Result<Sent, CaseError> {
+        let mut code = self.shape.code(alloc)?;
         let positions = code.numbers.n.saturating_sub(code.numbers.rank);
-        let count = usize::try_from(known)?.min(positions);
-        let mut generator = metrics.generator();
+        let count = usize::try_from(self.known)?.min(positions);
+        let mut generator = self.metrics.generator();
         let symbols = draw_symbols(alloc, &mut generator, count, 32)?;
         let word = encoded(alloc, &code, &symbols)?;
-        let metrics = metrics.floats(alloc, &mut generator, &word)?;
-        code.damage(damage)?;
+        let metrics = self.metrics.floats(alloc, &mut generator, &word)?;
+        code.damage(self.damage)?;
         Ok(Sent {
             code,
             word,
             metrics,
-            known,
         })
     }
+}
+
+// CODE DAMAGE RULE DRAWS SPREAD PEAK KNOWN LIMIT. All are read before the code is built, which takes longer.
+pub fn sent_and_limits(
+    alloc: Global,
+    fields: &mut Fields<'_>,
+) -> Result<(Sent, u32, u32), CaseError> {
+    let sending = Sending::read(fields)?;
+    let known = u32::try_from(sending.known)?;
+    let limit = fields.number()?;
+    Ok((sending.sent(alloc)?, known, limit))
+}
+
+// CODE DAMAGE RULE DRAWS SPREAD PEAK KNOWN RULE DRAWS SPREAD PEAK WIDTH. The second metrics are the posteriors.
+pub fn sent_and_posteriors(
+    alloc: Global,
+    fields: &mut Fields<'_>,
+) -> Result<(Sent, Vec<f32>, usize), CaseError> {
+    let sending = Sending::read(fields)?;
+    let metrics = Metrics::read(fields)?;
+    let width = fields.number()?;
+    let sent = sending.sent(alloc)?;
+    let posteriors = metrics.floats(alloc, &mut metrics.generator(), &sent.word)?;
+    Ok((sent, posteriors, width))
 }
 
 // The work parts `words` and `bytes` of a frame call, before it.

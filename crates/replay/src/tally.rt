@@ -7,7 +7,6 @@ ghost use Rattle.replay.specs.Tally.{none, more, counted};
 use std::alloc::{AllocError, Global};
 use std::collections::BTreeMap;
 use std::fmt::Display;
-use std::io;
 
 #[derive(Clone, Copy)]
 pub struct Count {
@@ -64,16 +63,16 @@ impl<K: Ord + Copy + Display> Tally<K> {
 
     // A call that the list does not name has no line, so a call that goes missing from a list, or comes into one, changes what is printed.
     // No plainer: each line begins with the list's name, which a tally does not hold.
-    pub fn print(&self, rt: &impl Print, name: &str) -> io::Result<()> {
+    pub fn print(&self, rt: &impl Print, name: &str) {
         for (call, count) in &self.counts {
             let cases = count.cases;
             let differ = count.differ;
-            println!(rt; "{name} {call}: {cases} cases, {differ} differ")?;
+            let _ = println!(rt; "{name} {call}: {cases} cases, {differ} differ");
         }
         if self.counts.is_empty() {
-            println!(rt; "{name}: no case")?;
+            let _ = println!(rt; "{name}: no case");
         }
         let misread = self.misread;
-        println!(rt; "{name}: {misread} lines not understood")
+        let _ = println!(rt; "{name}: {misread} lines not understood");
     }
 }

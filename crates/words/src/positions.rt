@@ -7,6 +7,7 @@ ghost use Rattle.words.specs.InfoOf.{own_symbols, own_part};
 ghost use Rattle.words.specs.InfoPositions.{positions_part};
 ghost use Rattle.words.specs.K.{k_of};
 
+use calls::copy::copy;
 use lent::Sound;
 
 // How many there are.
@@ -50,6 +51,6 @@ pub fn list(code: &Sound, positions: &mut [u16]) -> usize
     let k = count(code);
     let info = &lent.info[..k];
     positions.fill(0);
-    positions[..k].copy_from_slice(info);
+    copy(info, &mut positions[..k]);
     k
 }

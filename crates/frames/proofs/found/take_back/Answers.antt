@@ -35,13 +35,13 @@ returns-then-padding_used-clause-answer c =
     let r = (goal.at.returns-then-padding_used-clause-answer c).After-padded_bits-padded in
     end_padding (padding_used (padded r)) (sym (ap padding_used (is_padded r)) ∙ sym c.padding_used.ensures ∙ c.if-padding_used.true)
 
-pub slice_bounds-copy_from_slice-end : goal.slice_bounds-copy_from_slice-end
-slice_bounds-copy_from_slice-end c =
-    let r = (goal.at.slice_bounds-copy_from_slice-end c).After-padded_bits-padded in sym (length-take-le 256 c.padded_bits-padded.result (omega (arith, long r)))
+pub slice_bounds-copy-end : goal.slice_bounds-copy-end
+slice_bounds-copy-end c =
+    let r = (goal.at.slice_bounds-copy-end c).After-padded_bits-padded in sym (length-take-le 256 c.padded_bits-padded.result (omega (arith, long r)))
 
-pub copy_from_slice-requires : goal.copy_from_slice-requires
-copy_from_slice-requires c =
-    let r = (goal.at.copy_from_slice-requires c).After-padded_bits-padded in
+pub copy-requires : goal.copy-requires
+copy-requires c =
+    let r = (goal.at.copy-requires c).After-padded_bits-padded in
     c.requires.lengths.1 ∙ sym (length-take-le 256 c.padded_bits-padded.result (omega (arith, long r)))
 
 pub returns-clause-answer : goal.returns-clause-answer
@@ -51,4 +51,4 @@ returns-clause-answer c =
 
 pub returns-clause-bits_after : goal.returns-clause-bits_after
 returns-clause-bits_after c =
-    let r = (goal.at.returns-clause-bits_after c).After-padded_bits-padded in c.copy_from_slice.ensures.after ∙ ap (take 256) (is_padded r)
+    let r = (goal.at.returns-clause-bits_after c).After-padded_bits-padded in c.copy.ensures ∙ ap (take 256) (is_padded r)

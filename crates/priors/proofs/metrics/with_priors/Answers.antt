@@ -32,4 +32,4 @@ unfolding with_priors
 returns c =
     let a = c.args in
     iter_end 52 c.loop-j.j (turn a.info.now a.bit.now a.slot.now a.prior.now) _ _ (omega arith) c.loop-j.invariant.1
-    ∙ ap (λ (m : List Float). iter 52 (turn a.info.now a.bit.now a.slot.now a.prior.now) m) c.copy_from_slice.ensures.after
+    ∙ ap (λ (m : List Float). iter 52 (turn a.info.now a.bit.now a.slot.now a.prior.now) m) c.copy.ensures

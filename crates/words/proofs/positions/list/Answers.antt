@@ -29,15 +29,15 @@ slice_bounds-info-end c =
     let k = rw (← c.code.view_is, ← c.lent.view_is) at c.count-k.ensures in
     sym (length-take-le _ _ (omega (arith, k, positions-length _ _ w, w.fits.n_small, w.fits.parts.info)))
 
-pub slice_bounds-copy_from_slice-end : goal.slice_bounds-copy_from_slice-end
-slice_bounds-copy_from_slice-end c = (room (goal.at.slice_bounds-copy_from_slice-end c).After-fill).1
+pub slice_bounds-copy-end : goal.slice_bounds-copy-end
+slice_bounds-copy-end c = (room (goal.at.slice_bounds-copy-end c).After-fill).1
 
-pub slice_bounds-copy_from_slice-end-2 : goal.slice_bounds-copy_from_slice-end-2
-slice_bounds-copy_from_slice-end-2 c = sym (length-take-le _ _ (room (goal.at.slice_bounds-copy_from_slice-end-2 c).After-fill).1)
+pub slice_bounds-copy-end-2 : goal.slice_bounds-copy-end-2
+slice_bounds-copy-end-2 c = sym (length-take-le _ _ (room (goal.at.slice_bounds-copy-end-2 c).After-fill).1)
 
-pub copy_from_slice-requires : goal.copy_from_slice-requires
-copy_from_slice-requires c =
-    let r = room (goal.at.copy_from_slice-requires c).After-fill in
+pub copy-requires : goal.copy-requires
+copy-requires c =
+    let r = room (goal.at.copy-requires c).After-fill in
     length-take-le _ _ r.1 ∙ sym (length-take-le _ _ r.0)
 
 pub returns-clause-positions_after : goal.returns-clause-positions_after
@@ -50,6 +50,6 @@ returns-clause-positions_after c =
     let o = room (goal.at.returns-clause-positions_after c).After-fill in
     rw (← c.code.view_is, ← c.lent.view_is)
     (padded_filled n (length c.args.positions.now) 0 _ _ _ r (c.fill.ensures.after (λ y e. e))
-    (ap (λ (l : List ℕ). l ++ drop c.count-k.result c.fill.new.self) c.copy_from_slice.ensures.after ∙ front_laid info c.fill.new.self c.count-k.result o.0)
+    (ap (λ (l : List ℕ). l ++ drop c.count-k.result c.fill.new.self) c.copy.ensures ∙ front_laid info c.fill.new.self c.count-k.result o.0)
     ∙ ap (λ (i : ℕ). padded n 0 (values i (nth info))) (k ∙ positions-length _ _ w)
     ∙ ap (padded n 0) (positions_all _ _ w))
