@@ -4,6 +4,7 @@ pub mod Digest
 pub mod Frames
 pub mod Given
 pub mod Held
+pub mod Takes
 pub mod Tally
 pub mod Text
 pub mod Work

@@ -1,6 +1,7 @@
 // The calls that a case may name, in the order of a tally.
 ghost use Rattle.std.specs.Prelude.{◌≡◌, ◌≢◌, Some, MatchResult};
-ghost use Rattle.replay.specs.Call.{name_of, takes};
+ghost use Rattle.replay.specs.Call.{name_of};
+ghost use Rattle.replay.specs.Takes.{takes};
 ghost use Rattle.replay.specs.declared.call.Call.{Call as AnyCall};
 ghost use Rattle.replay.specs.declared.case.CaseError.TheVariants.{NotUnderstood};
 

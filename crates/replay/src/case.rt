@@ -1,7 +1,7 @@
 // A case: a call's name and decimal numbers, each after a single space. The numbers are the call's arguments and then what the list has for its answers.
 ghost use Rattle.std.specs.Prelude.{◌≡◌, ◌↔◌, ◌≤◌, IsTrue, IsErrOf, IfOk, All, false, length, take, drop};
 ghost use Rattle.replay.specs.Answers.{beside};
-ghost use Rattle.replay.specs.Call.{takes};
+ghost use Rattle.replay.specs.Takes.{takes};
 ghost use Rattle.replay.specs.declared.case.CaseError.TheVariants.{NotUnderstood, OutOfMemory};
 
 use crate::answers::{Answer, Answers};

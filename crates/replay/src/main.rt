@@ -1,4 +1,5 @@
-// Replays fixed lists of answers against the library, and prints what differs and where. The lists stand in data/, and what a good run prints in stdout.
+// Replays fixed lists of answers against the library, and prints what differs and where. The lists stand in data/, and what a good run prints in stdout. What a failed
+// write leaves out is missed where that is compared, so no answer of a write is read and the program goes on.
 #![tactic(auto)]
 
 use std::io;
